@@ -1,0 +1,67 @@
+-- Laws of splices and of padding.
+use mathlib.Core.Path.{_≡_, sym, ap₂, _∙_}
+use mathlib.Core.List.{List, [], _++_, append-assoc}
+use Prim.Native.Nat.{ℕ, _+_, _-_, _≤_, _<_}
+use native.Mathlib.Omega.{arith}
+use native.Mathlib.Nat.{add-assoc}
+use lib.ListN.{length, take, getD, length-append, length-take, length-drop, length-replicate, take-append-drop, getD-replicate, List·getD-append}
+use lib.Seq.{length-take-le, take-at, drop-at, take-append-seam, getD-append-add, getD-take, getD-drop, drop-drop}
+use Rattle.laws.specs.Parts.{front, splice, pad}
+
+module _ {A : Type 0} where
+  -- the element i of two lists is the element j of the second
+  getD-past : (l m : List A) (i j : ℕ) (d : A) → length l + j ≡ i → getD (l ++ m) i d ≡ getD m j d
+  getD-past l m i j d e = rw (← e) (getD-append-add l m j d)
+
+  pub splice-length : (p : ℕ) (b l : List A) → p + length b ≤ length l → length (splice p b l) ≡ length l
+  unfolding splice front
+  splice-length p b l h = simp (length-append, length-take, length-drop) (omega arith)
+
+  -- outside the part nothing changes
+  pub splice-before : (p : ℕ) (b l : List A) (i : ℕ) (d : A) → p ≤ length l → i < p → getD (splice p b l) i d ≡ getD l i d
+  unfolding splice
+  splice-before p b l i d h k = List·getD-append (take p l) _ d i (omega (arith, length-take-le p l h)) ∙ getD-take p l i d k
+
+  pub splice-after : (p : ℕ) (b l : List A) (i : ℕ) (d : A) → p + length b ≤ length l → p + length b ≤ i → getD (splice p b l) i d ≡ getD l i d
+  unfolding splice front
+  splice-after p b l i d h k =
+      let t = length-take p l in
+      let j = i - p - length b in
+      let e : p + (length b + j) ≡ i = omega arith in
+      getD-past (take p l) _ i (length b + j) d (omega arith) ∙ getD-append-add b _ j d ∙ simp (getD-drop, e)
+
+  -- inside it b stands
+  pub splice-within : (p : ℕ) (b l : List A) (i : ℕ) (d : A) → p ≤ length l → i < length b → getD (splice p b l) (p + i) d ≡ getD b i d
+  unfolding splice front
+  splice-within p b l i d h k = getD-past (take p l) _ (p + i) i d (omega (arith, length-take-le p l h)) ∙ List·getD-append b _ d i k
+
+  pub splice-nothing : (p : ℕ) (l : List A) → splice p [] l ≡ l
+  unfolding splice front
+  splice-nothing p l = take-append-drop p l
+
+  -- one splice right behind another is one splice
+  pub splice-append : (p : ℕ) (a b l : List A) → p + length a + length b ≤ length l → splice (p + length a) b (splice p a l) ≡ splice p (a ++ b) l
+  unfolding splice front
+  splice-append p a b l h =
+      let e : length (take p l ++ a) ≡ p + length a = simp (length-append, length-take) (omega arith) in
+      rw (← append-assoc (take p l) a, take-at, drop-at) (simp (append-assoc, length-append, drop-drop, add-assoc))
+
+  pub pad-length : (n : ℕ) (d : A) (l : List A) → length l ≤ n → length (pad n d l) ≡ n
+  unfolding pad
+  pad-length n d l h = simp (length-append, length-replicate) (omega arith)
+
+  pub pad-take : (n : ℕ) (d : A) (l : List A) → take (length l) (pad n d l) ≡ l
+  unfolding pad
+  pad-take n d l = take-append-seam l _
+
+  pub pad-at : (n : ℕ) (d : A) (l : List A) (i : ℕ) (e : A) → i < length l → getD (pad n d l) i e ≡ getD l i e
+  unfolding pad
+  pad-at n d l i e h = List·getD-append l _ e i h
+
+  pub pad-beyond : (n : ℕ) (d : A) (l : List A) (i : ℕ) (e : A) → length l ≤ i → i < n → getD (pad n d l) i e ≡ d
+  unfolding pad
+  pad-beyond n d l i e h k = getD-past l _ i (i - length l) e (omega arith) ∙ getD-replicate (n - length l) (i - length l) d e (omega arith)
+
+  -- lists of one length with equal paddings are equal
+  pub pad-equal : (n : ℕ) (d : A) (a b : List A) → length a ≡ length b → pad n d a ≡ pad n d b → a ≡ b
+  pad-equal n d a b h e = sym (pad-take n d a) ∙ ap₂ take h e ∙ pad-take n d b
