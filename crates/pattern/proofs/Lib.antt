@@ -1,0 +1,9 @@
+-- The theorems about patterns: `positions` (Spell), the empty word and bound variables (Words), ranges, sizes and
+-- counts of the masks (Masks). What they rest on: membership in a mask (Members), one word and then another (Then), what
+-- may come after a position (After).
+mod Members
+mod Then
+mod After
+pub mod Masks
+pub mod Spell
+pub mod Words

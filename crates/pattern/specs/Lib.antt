@@ -1,0 +1,3 @@
+-- Regular expressions over symbol numbers, their language, and their positions.
+pub mod Regex
+pub mod Positions
