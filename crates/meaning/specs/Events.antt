@@ -1,0 +1,91 @@
+-- Symbols, events, constraints and valuations: document 01, "Events, valuations, rows"; source document 000, 4.2.
+use mathlib.Core.Bool.{Bool, true, false, cond, not, _&&_, _||_}
+use mathlib.Core.List.{List, [], _∷_, _++_}
+use Prim.Native.Nat.{ℕ, _^_}
+use lib.Dec.{eqb, leb, ltb}
+use lib.ListN.{length, getD}
+use Rattle.laws.specs.Lists.{any, all}
+
+-- an argument place of a symbol: `_` ("that argument is ignored"), or a declared variable by its number from 0
+pub data Place : Type 0 where
+  ignored : Place
+  names : ℕ → Place
+
+-- `sym NAME KIND ARGS`
+pub record Symbol : Type 0 where
+  pub kind : ℕ
+  pub places : List Place
+
+-- an event record: kind and arguments
+pub record Event : Type 0 where
+  pub kind : ℕ
+  pub args : List ℕ
+
+-- "a 32-bit number"
+abbrev pub word32 : ℕ → Bool
+word32 x = ltb x (2 ^ 32)
+
+-- "byte 0 kind (1 to 255); byte 1 argument count (0 to 4); … unsigned 32-bit … arguments"
+unfoldable pub wellFormed : Event → Bool
+wellFormed e = leb 1 (e .kind) && leb (e .kind) 255 && leb (length (e .args)) 4 && all word32 (e .args)
+
+-- "variable equals argument"
+pub record Demand : Type 0 where
+  pub variable : ℕ
+  pub value : ℕ
+
+-- a constraint: false, or demands that must all hold
+pub data Constraint : Type 0 where
+  never : Constraint
+  demands : List Demand → Constraint
+
+-- "A symbol matches an event when the kinds are equal and the event's argument count equals the symbol's."
+unfoldable pub matches : Symbol → Event → Bool
+matches s e = eqb (s .kind) (e .kind) && eqb (length (s .places)) (length (e .args))
+
+-- what a place asks of its argument
+abbrev pub demandOf : Place → ℕ → List Demand
+demandOf ignored x = []
+demandOf (names v) x = record { variable = v; value = x } ∷ []
+
+-- "'variable equals argument' for each bound place"
+abbrev pub demandsOf : List Place → List ℕ → List Demand
+demandsOf [] xs = []
+demandsOf (p ∷ ps) [] = []
+demandsOf (p ∷ ps) (x ∷ xs) = demandOf p x ++ demandsOf ps xs
+
+-- "two unequal demands on one variable make it false"
+abbrev pub compatible : Demand → Demand → Bool
+compatible c d = not (eqb (c .variable) (d .variable)) || eqb (c .value) (d .value)
+
+abbrev pub consistent : List Demand → Bool
+consistent [] = true
+consistent (d ∷ ds) = all (compatible d) ds && consistent ds
+
+-- the symbol's constraint on an event; "as does no match"
+unfoldable pub constraintOf : Symbol → Event → Constraint
+constraintOf s e = let ds = demandsOf (s .places) (e .args) in cond (matches s e && consistent ds) (demands ds) never
+
+-- a number for each variable, by declaration
+abbrev pub Valuation : Type 0
+Valuation = List ℕ
+
+-- "A valuation gives each variable a 32-bit number; with no variables there is one, the empty valuation."
+unfoldable pub isValuation : ℕ → Valuation → Bool
+isValuation variables σ = eqb (length σ) variables && all word32 σ
+
+abbrev pub agrees : Valuation → Demand → Bool
+agrees σ d = eqb (getD σ (d .variable) 0) (d .value)
+
+-- whether a constraint holds under a valuation
+abbrev pub satisfies : Constraint → Valuation → Bool
+satisfies never σ = false
+satisfies (demands ds) σ = all (agrees σ) ds
+
+-- whether the symbol's constraint on the event holds under the valuation
+unfoldable pub holds : Symbol → Event → Valuation → Bool
+holds s e σ = satisfies (constraintOf s e) σ
+
+-- "An event concerns a valuation if some symbol's constraint holds under it."
+unfoldable pub concerns : List Symbol → Event → Valuation → Bool
+concerns symbols e σ = any (λ s. holds s e σ) symbols

@@ -1,0 +1,83 @@
+-- Runs of event calls, their trace and their rows, and what demands 2 and 3 say of them: document 01, "Crossed
+-- messages". The theorems are in ../proofs/Listed.antt and ../proofs/Crossed.antt.
+use mathlib.Core.Path.{_≡_}
+use mathlib.Core.Bool.{Bool, true, false}
+use mathlib.Core.List.{List, [], _∷_, List·Memᴰ}
+use mathlib.Core.Logic.{_↔_}
+use Prim.Native.Nat.{ℕ, suc, _<_}
+use lib.ListN.{length, getD}
+use Rattle.laws.specs.Order.{ascending}
+use Rattle.meaning.specs.Events.{Event, Valuation, wellFormed, isValuation, concerns}
+use Rattle.meaning.specs.Meaning.{Tracematch, noEvent, Row}
+use Rattle.meaning.specs.Book.{Book, bookOf}
+use Rattle.meaning.specs.Labels.{Held, newHeld}
+use Rattle.meaning.specs.Room.{room}
+use Rattle.meaning.specs.Rows.{rows, compareValuations}
+
+-- one call of a run: an event, and whether it was accepted. A refusal may have any reason, lack of room among them.
+pub data Call : Type 0 where
+  event : (e : Event) (accepted : Bool) → Call
+
+-- "the accepted ones in order are the run's trace"
+abbrev pub traceOf : List Call → List Event
+traceOf [] = []
+traceOf (event e true ∷ cs) = e ∷ traceOf cs
+traceOf (event e false ∷ cs) = traceOf cs
+
+-- "Each call gets the state that the call before it returned or left (after a refusal, the same one)."
+module _ {S R : Type 0} (step : S → Event → S) (give : S → Event → R) where
+  -- the state after the calls
+  abbrev pub run : S → List Call → S
+  run s [] = s
+  run s (event e true ∷ cs) = run (step s e) cs
+  run s (event e false ∷ cs) = run s cs
+
+  -- what each accepted event gave, in order
+  abbrev pub given : S → List Call → List R
+  given s [] = []
+  given s (event e true ∷ cs) = give s e ∷ given (step s e) cs
+  given s (event e false ∷ cs) = given s cs
+
+-- what is held after a run from the fresh state, and the row lists of its accepted events in order
+abbrev pub heldAfter : Tracematch → List Call → List Held
+heldAfter tm cs = run (newHeld (bookOf tm)) (rows (bookOf tm)) [] cs
+
+abbrev pub rowLists : Tracematch → List Call → List (List Valuation)
+rowLists tm cs = given (newHeld (bookOf tm)) (rows (bookOf tm)) [] cs
+
+-- a run that accepts only well-formed events for which there is room, as every run of the watch does
+pub data OrderlyFrom (b : Book) : List Held → List Call → Type 0 where
+  finished : {held : List Held} → OrderlyFrom b held []
+  accepts : {held : List Held} {e : Event} {cs : List Call} → wellFormed e ≡ true → room b held e ≡ true
+      → OrderlyFrom b (newHeld b held e) cs → OrderlyFrom b held (event e true ∷ cs)
+  refuses : {held : List Held} {e : Event} {cs : List Call} → OrderlyFrom b held cs → OrderlyFrom b held (event e false ∷ cs)
+
+abbrev pub Orderly : Book → List Call → Type 0
+Orderly b cs = OrderlyFrom b [] cs
+
+-- Demand 2: l is, "once each and in order, the valuations" that are a row after event number n of the trace t
+pub record Listed (tm : Tracematch) (t : List Event) (n : ℕ) (l : List Valuation) : Type 0 where
+  pub ordered : ascending compareValuations l ≡ true
+  pub exact : (σ : Valuation) → List·Memᴰ σ l ↔ Row tm t n σ
+
+-- "Partners are accepted events with the same 20 bytes, one in each run; each accepted event has exactly one partner."
+-- Events are counted from 0 here.
+pub record Pairing (t u : List Event) : Type 0 where
+  pub to : ℕ → ℕ
+  pub back : ℕ → ℕ
+  pub to-inside : (i : ℕ) → i < length t → to i < length u
+  pub back-inside : (j : ℕ) → j < length u → back j < length t
+  pub back-to : (i : ℕ) → i < length t → back (to i) ≡ i
+  pub to-back : (j : ℕ) → j < length u → to (back j) ≡ j
+  pub same : (i : ℕ) → i < length t → getD u (to i) noEvent ≡ getD t i noEvent
+
+-- "Two events concern a common valuation if some one valuation is concerned by both."
+pub record Dependent (tm : Tracematch) (e f : Event) : Type 0 where
+  pub common : Valuation
+  pub valuation : isValuation (tm .variables) common ≡ true
+  pub first : concerns (tm .symbols) e common ≡ true
+  pub second : concerns (tm .symbols) f common ≡ true
+
+-- "dependent ones in the same order"
+pub record Ordered (tm : Tracematch) (t u : List Event) (pairs : Pairing t u) : Type 0 where
+  pub keeps : (i j : ℕ) → i < j → j < length t → Dependent tm (getD t i noEvent) (getD t j noEvent) → pairs .to i < pairs .to j

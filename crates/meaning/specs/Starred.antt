@@ -1,0 +1,122 @@
+-- The starred roasts of document 01 that are event runs: for each a tracematch, the events sent, and what the watch
+-- answers to each. Books are written as patterns. The theorem about the whole table is in ../proofs/Starred.antt.
+use mathlib.Core.Bool.{Bool, true, false, cond}
+use mathlib.Core.List.{List, [], _∷_}
+use Prim.Native.Nat.{ℕ}
+use Rattle.pattern.specs.Regex.{Regex, lit, cat, star, plus}
+use Rattle.meaning.specs.Events.{Place, ignored, names, Symbol, Event, Valuation}
+use Rattle.meaning.specs.Meaning.{Tracematch}
+use Rattle.meaning.specs.Book.{Book, bookOf}
+use Rattle.meaning.specs.Labels.{Held, newHeld}
+use Rattle.meaning.specs.Room.{room}
+use Rattle.meaning.specs.Rows.{rows}
+
+-- the answer to an event: 0 with its rows, or 12
+pub data Answer : Type 0 where
+  accepted : List Valuation → Answer
+  noRoom : Answer
+
+-- the answers to a list of well-formed events, from what is held
+abbrev pub answers : Book → List Held → List Event → List Answer
+answers b held [] = []
+answers b held (e ∷ es) =
+    let more = answers b (newHeld b held e) es in
+    let same = answers b held es in
+    cond (room b held e) (accepted (rows b held e) ∷ more) (noRoom ∷ same)
+
+pub record Case : Type 0 where
+  pub tracematch : Tracematch
+  pub events : List Event
+  pub expected : List Answer
+
+abbrev symbol : ℕ → List Place → Symbol
+symbol k ps = record { kind = k; places = ps }
+
+abbrev event : ℕ → List ℕ → Event
+event k xs = record { kind = k; args = xs }
+
+-- variables d = 0 and s = 1
+abbrev d : Place
+d = names 0
+
+abbrev s : Place
+s = names 1
+
+-- B1: load 1 d s, drop 2 d, clean 3 d
+abbrev b1 : Regex → Tracematch
+b1 r = record { variables = 2; symbols = symbol 1 (d ∷ s ∷ []) ∷ symbol 2 (d ∷ []) ∷ symbol 3 (d ∷ []) ∷ []; pattern = r }
+
+abbrev load : ℕ → ℕ → Event
+load x y = event 1 (x ∷ y ∷ [])
+
+abbrev drop : ℕ → Event
+drop x = event 2 (x ∷ [])
+
+abbrev clean : ℕ → Event
+clean x = event 3 (x ∷ [])
+
+-- B2: open 5 d, fill 1 d s, seal 6 d s, `match open seal`
+abbrev b2 : Tracematch
+b2 = record { variables = 2; symbols = symbol 5 (d ∷ []) ∷ symbol 1 (d ∷ s ∷ []) ∷ symbol 6 (d ∷ s ∷ []) ∷ []; pattern = cat (lit 0) (lit 2) }
+
+abbrev opened : ℕ → Event
+opened x = event 5 (x ∷ [])
+
+abbrev fill : ℕ → ℕ → Event
+fill x y = event 1 (x ∷ y ∷ [])
+
+abbrev seal : ℕ → ℕ → Event
+seal x y = event 6 (x ∷ y ∷ [])
+
+-- no rows; the row 1 7
+abbrev none : Answer
+none = accepted []
+
+abbrev row17 : Answer
+row17 = accepted ((1 ∷ 7 ∷ []) ∷ [])
+
+unfoldable pub table : List Case
+table =
+    -- "Events load(1,7), load(2,8), drop(1), clean(2), drop(2), drop(1) print, whole"
+    record {
+      tracematch = b1 (cat (lit 0) (plus (lit 1)));
+      events = load 1 7 ∷ load 2 8 ∷ drop 1 ∷ clean 2 ∷ drop 2 ∷ drop 1 ∷ [];
+      expected = none ∷ none ∷ row17 ∷ none ∷ none ∷ row17 ∷ [];
+    }
+    -- "B1, load(1,7), a kind-9 event, drop(1): row 1 7."
+    ∷ record {
+      tracematch = b1 (cat (lit 0) (plus (lit 1)));
+      events = load 1 7 ∷ event 9 [] ∷ drop 1 ∷ [];
+      expected = none ∷ none ∷ row17 ∷ [];
+    }
+    -- "No variables, `sym a 1 _`, `sym b 1 _`, `match a b`: two kind-1 events of one argument give nothing, then the
+    -- empty valuation."
+    ∷ record {
+      tracematch = record {
+        variables = 0;
+        symbols = symbol 1 (ignored ∷ []) ∷ symbol 1 (ignored ∷ []) ∷ [];
+        pattern = cat (lit 0) (lit 1);
+      };
+      events = event 1 (4 ∷ []) ∷ event 1 (5 ∷ []) ∷ [];
+      expected = none ∷ accepted ([] ∷ []) ∷ [];
+    }
+    -- "Pattern `load* load drop`, load(1,7) twice, drop(1): one row."
+    ∷ record {
+      tracematch = b1 (cat (star (lit 0)) (cat (lit 0) (lit 1)));
+      events = load 1 7 ∷ load 1 7 ∷ drop 1 ∷ [];
+      expected = none ∷ none ∷ row17 ∷ [];
+    }
+    -- "open(1), fill(1,7), seal(1,7), seal(1,8): only the last gives a row, 1 8."
+    ∷ record {
+      tracematch = b2;
+      events = opened 1 ∷ fill 1 7 ∷ seal 1 7 ∷ seal 1 8 ∷ [];
+      expected = none ∷ none ∷ none ∷ accepted ((1 ∷ 8 ∷ []) ∷ []) ∷ [];
+    }
+    -- "B2, open(1), fill(1,1) to fill(1,6): 0. Then fill(1,7): 12; seal(1,6): 0, no row; seal(1,9): 12."
+    ∷ record {
+      tracematch = b2;
+      events =
+          opened 1 ∷ fill 1 1 ∷ fill 1 2 ∷ fill 1 3 ∷ fill 1 4 ∷ fill 1 5 ∷ fill 1 6 ∷ fill 1 7 ∷ seal 1 6 ∷ seal 1 9 ∷ [];
+      expected = none ∷ none ∷ none ∷ none ∷ none ∷ none ∷ none ∷ noRoom ∷ none ∷ noRoom ∷ [];
+    }
+    ∷ []
