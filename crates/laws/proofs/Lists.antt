@@ -24,6 +24,10 @@ pub and-true-split : (a b : Bool) → (a && b) ≡ true → (a ≡ true) × (b �
 and-true-split true b h = (refl, h)
 and-true-split false b h = absurd (false≢true h)
 
+pub and-false-split : (a b : Bool) → (a && b) ≡ false → (a ≡ false) ⊎ (b ≡ false)
+and-false-split true b h = inr h
+and-false-split false b h = inl refl
+
 pub or-true-split : (a b : Bool) → (a || b) ≡ true → (a ≡ true) ⊎ (b ≡ true)
 or-true-split true b h = inl refl
 or-true-split false b h = inr h
@@ -107,6 +111,11 @@ module _ {A : Type 0} where
   any-found f (x ∷ l) h =
       ⊎-elim (λ e. (x, List·Memᴰ·head refl, e)) (λ e. let r = any-found f l e in (r .0, List·Memᴰ·tail (r .1), r .2)) (or-true-split (f x) (any f l) h)
 
+  pub all-found : (f : A → Bool) (l : List A) → all f l ≡ false → (x : A) × List·Memᴰ x l × (f x ≡ false)
+  all-found f [] h = absurd (true≢false h)
+  all-found f (x ∷ l) h =
+      ⊎-elim (λ e. (x, List·Memᴰ·head refl, e)) (λ e. let r = all-found f l e in (r .0, List·Memᴰ·tail (r .1), r .2)) (and-false-split (f x) (all f l) h)
+
   pub any-of : (f : A → Bool) {x : A} {l : List A} → List·Memᴰ x l → f x ≡ true → any f l ≡ true
   any-of f {l = y ∷ l} (List·Memᴰ·head e) h = ap (λ b. b || any f l) (sym (ap f e) ∙ h)
   any-of f {l = y ∷ l} (List·Memᴰ·tail m) h = ap (λ b. f y || b) (any-of f m h) ∙ or-true (f y)
@@ -155,6 +164,19 @@ module _ {A : Type 0} where
     λ p. ⊎-elim (λ e. Memᴰ·append-left (gather g l) (subst (λ x. List·Memᴰ y (g x)) e (p .2)))
         (λ n. Memᴰ·append-right (g z) (ih .1 (p .0, n, p .2))) (List·Memᴰ·cases-cons (p .1)),
   )
+
+  -- elements picked by a test and mapped
+  pub mem-picked : {B : Type 0} (f : A → Bool) (g : A → B) (y : B) (l : List A)
+      → List·Memᴰ y (map g (keep f l)) ↔ ((x : A) × List·Memᴰ x l × (f x ≡ true) × (y ≡ g x))
+  mem-picked f g y l = (
+    λ m. let (x, k, e) = mem-map g y (keep f l) .0 m in let n = mem-keep f x l .0 k in (x, n .0, n .1, e),
+    λ p. mem-map g y (keep f l) .1 (p .0, mem-keep f (p .0) l .1 (p .1, p .2), p .3),
+  )
+
+  -- maps that give the same list agree on its elements
+  pub map-at : {B : Type 0} (f g : A → B) {x : A} {l : List A} → map f l ≡ map g l → List·Memᴰ x l → f x ≡ g x
+  map-at f g h (List·Memᴰ·head e) = rw e (cc)
+  map-at f g h (List·Memᴰ·tail m) = map-at f g (cc) m
 
   pub mem-getD : (l : List A) (i : ℕ) (d : A) → i < length l → List·Memᴰ (getD l i d) l
   mem-getD [] i d h = absurd (not-suc-le-zero h)

@@ -22,10 +22,11 @@ use Rattle.meaning.specs.Meaning.{Tracematch, noSymbol}
 use Rattle.meaning.specs.Book.{Book, bookOf, Proper, binds, positions, endsAt, followsAt, symbolOf}
 use Rattle.meaning.specs.Labels.{Entry, bound, free, Disjunct, entryOf, isFree, bind, metAll, meets, met}
 use Rattle.meaning.specs.Labels.{excluding, skipOne, Held, sources, stepSet, skipSet, newHeld}
-use Rattle.meaning.specs.Rows.{rows, leavesFree}
+use Rattle.meaning.specs.Rows.{leavesFree}
 use Rattle.meaning.specs.Runs.{Call, event, run, heldAfter}
 use Rattle.meaning.proofs.Fits.{met-length}
-use Rattle.meaning.proofs.Stems.{skip-cases, label-held, skip-kept, source-cases, step-source, new-cases}
+use Rattle.meaning.proofs.Members.{stepSet-member}
+use Rattle.meaning.proofs.Stems.{skip-cases, label-held, skip-kept, source-cases, new-cases}
 
 none-pass : {A : Type 0} (f : A → Bool) (l : List A) → ((x : A) → List·Memᴰ x l → f x ≡ false) → any f l ≡ false
 none-pass f l h = any-agree f (λ x. false) l h ∙ any-false l
@@ -176,7 +177,7 @@ module _ (tm : Tracematch) where
     new-backed : AllBacked (newHeld (bookOf tm) held e)
     new-backed h m =
         ⊎-elim (skip-backed (h .position) (h .disjunct))
-        (λ n. let r = step-source (bookOf tm) held e (h .position) n in rw (r .3) (step-backed (h .position) (r .0) (r .1) (r .2)))
+        (λ n. let r = stepSet-member (bookOf tm) held e (h .position) (h .disjunct) .0 n in rw (r .3) (step-backed (h .position) (r .0) (r .1) (r .2)))
         (new-cases (bookOf tm) held e h m .1)
 
     none-free : Proper tm → leavesFree (bookOf tm) held e ≡ false
@@ -188,7 +189,7 @@ module _ (tm : Tracematch) where
         go q D ends m false k = refl
         go q D ends m true k = backed-closed ok ends (step-backed q D m k)
 
-  run-backed : (held : List Held) → AllBacked held → (cs : List Call) → AllBacked (run (newHeld (bookOf tm)) (rows (bookOf tm)) held cs)
+  run-backed : (held : List Held) → AllBacked held → (cs : List Call) → AllBacked (run (newHeld (bookOf tm)) held cs)
   run-backed held backed [] = backed
   run-backed held backed (event e true ∷ cs) = run-backed (newHeld (bookOf tm) held e) (new-backed held backed e) cs
   run-backed held backed (event e false ∷ cs) = run-backed held backed cs
@@ -203,6 +204,6 @@ pub closed : (b : Book) (held : List Held) (e : Event) → leavesFree b held e �
 unfolding leavesFree
 closed b held e h q m k D d =
     let c = constraintOf (symbolOf b q) e in
-    let r = step-source b held e q d in
+    let r = stepSet-member b held e q D .0 d in
     let here : any (λ E. meets E c && any isFree (met E c)) (sources b held q) ≡ false = any-none _ h (mem-keep (endsAt b) q (positions b) .1 (m, k)) in
     rw (r .3) (rw (r .2) at (any-none (λ E. meets E c && any isFree (met E c)) here (r .1)))

@@ -10,7 +10,7 @@ use native.Mathlib.Omega.{arith}
 use lib.ListN.{length, take, getD}
 use lib.Seq.{take-suc}
 use Rattle.laws.specs.Lists.{all, keep}
-use Rattle.laws.proofs.Lists.{keep-append}
+use Rattle.laws.proofs.Lists.{all-at, all-of, mem-getD, mem-index, keep-append}
 use Rattle.laws.proofs.Sets.{same-members}
 use Rattle.meaning.specs.Events.{Event, Valuation, wellFormed, isValuation, concerns}
 use Rattle.meaning.specs.Meaning.{Tracematch, noEvent, concerning, Row}
@@ -47,6 +47,12 @@ turn {u} pairs = record {
   to-back = pairs .back-to;
   same = λ j h. sym (pairs .same (pairs .back j) (pairs .back-inside j h)) ∙ ap (λ n. getD u n noEvent) (pairs .to-back j h);
 }
+
+-- what holds of all events of one holds of all their partners
+paired-all : (f : Event → Bool) (t u : List Event) → Pairing t u → all f t ≡ true → all f u ≡ true
+paired-all f t u pairs h = all-of f u λ e m.
+    let (j, k, x) = mem-index noEvent m in
+    sym (ap f (turn pairs .same j k ∙ x)) ∙ all-at f h (mem-getD t (pairs .back j) noEvent (pairs .back-inside j k))
 
 turn-ordered : (tm : Tracematch) (t u : List Event) (pairs : Pairing t u) → Ordered tm t u pairs → Ordered tm u t (turn pairs)
 turn-ordered tm t u pairs ord = record { keeps = λ i j h k d. lt-of-not-le (crossing i j h k d) }
@@ -151,12 +157,13 @@ partner-rows tm t u pairs ord i h σ = (
   λ r. rw (pairs .back-to i h) at (row tm u t (turn pairs) (turn-ordered tm t u pairs ord) (pairs .to i) (pairs .to-inside i h) σ r),
 )
 
-pub crossed : (tm : Tracematch) → Proper tm → (xs ys : List Call) → all wellFormed (traceOf xs) ≡ true → all wellFormed (traceOf ys) ≡ true
+pub crossed : (tm : Tracematch) → Proper tm → (xs ys : List Call) → all wellFormed (traceOf xs) ≡ true
     → (pairs : Pairing (traceOf xs) (traceOf ys)) → Ordered tm (traceOf xs) (traceOf ys) pairs → (i : ℕ) → i < length (traceOf xs)
     → (getD (rowLists tm xs) i [] ≡ getD (rowLists tm ys) (pairs .to i) [])
     × Listed tm (traceOf xs) (suc i) (getD (rowLists tm xs) i [])
     × Listed tm (traceOf ys) (suc (pairs .to i)) (getD (rowLists tm ys) (pairs .to i) [])
-crossed tm ok xs ys gx gy pairs ord i h =
+crossed tm ok xs ys gx pairs ord i h =
+    let gy = paired-all wellFormed (traceOf xs) (traceOf ys) pairs gx in
     let a = listed tm ok xs gx i h in
     let b = listed tm ok ys gy (pairs .to i) (pairs .to-inside i h) in (
       same-members valuation-order _ _ (a .ordered) (b .ordered)

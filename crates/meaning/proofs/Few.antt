@@ -1,24 +1,24 @@
 -- Document 01: "an event has at most 16 × 129 rows", for any sound book and state.
 use mathlib.Core.Path.{_≡_, ap, _∙_}
-use mathlib.Core.Bool.{Bool, true, false, cond, and-eq-true-iff}
-use mathlib.Core.List.{List, [], _∷_, map, List·Memᴰ, List·Memᴰ·head, List·Memᴰ·tail}
-use mathlib.Core.List.{List·Memᴰ·not-nil, List·Memᴰ·append-cases, List·Memᴰ·eq-of-singleton}
+use mathlib.Core.Bool.{true, and-eq-true-iff}
+use mathlib.Core.List.{List, _∷_, map, List·Memᴰ, List·Memᴰ·head, List·Memᴰ·tail}
 use mathlib.Core.Logic.{⊎-elim}
 use Prim.Native.Nat.{ℕ, _-_, _*_, _≤_}
 use native.Mathlib.Omega.{arith}
 use borrow.Author.Tests.{leb-true, ltb-true}
 use lib.Dec.{ltb}
 use lib.ListN.{length, length-map}
-use Rattle.laws.specs.Lists.{all, keep, gather}
-use Rattle.laws.specs.Order.{ascending}
-use Rattle.laws.proofs.Lists.{all-at, mem-keep, mem-map, mem-gather, mem-getD, mem-numbers, length-gather}
-use Rattle.laws.proofs.Sets.{mem-setOf, setOf-ascending, ascending-length}
+use Rattle.laws.specs.Lists.{all, gather}
+use Rattle.laws.proofs.Lists.{all-at, mem-map, mem-gather, mem-getD, mem-numbers, length-gather}
+use Rattle.laws.proofs.Sets.{ascending-length}
 use Rattle.meaning.specs.Events.{Event, Valuation, Symbol, constraintOf}
-use Rattle.meaning.specs.Book.{Book, soundBook, positions, symbolOf, beginsAt, followsAt}
-use Rattle.meaning.specs.Labels.{Disjunct, Held, freeDisjunct, met, sources, stepSet}
-use Rattle.meaning.specs.Rows.{compareValuations, valuationOf, rows}
+use Rattle.meaning.specs.Book.{Book, soundBook, positions, symbolOf}
+use Rattle.meaning.specs.Labels.{Disjunct, Held, freeDisjunct, met, sources}
+use Rattle.meaning.specs.Rows.{valuationOf, rows}
 use Rattle.meaning.specs.Sound.{soundHeld}
-use Rattle.meaning.proofs.Orders.{disjunct-order, valuation-order}
+use Rattle.meaning.proofs.Orders.{valuation-order}
+use Rattle.meaning.proofs.Members.{stepSet-member, rows-member, rows-ascending}
+use Rattle.meaning.proofs.Stems.{source-cases}
 
 sound-few : (b : Book) → soundBook b ≡ true → (length (b .symbols) ≤ 16) × (all (λ a. ltb a (length (b .symbols))) (b .occurrences) ≡ true)
 unfolding soundBook
@@ -40,17 +40,8 @@ module _ (b : Book) (held : List Held) where
   starts = freeDisjunct (b .variables) ∷ map (λ h. h .disjunct) held
 
   source-start : (q : ℕ) (D : Disjunct) → List·Memᴰ D (sources b held q) → List·Memᴰ D starts
-  unfolding sources
-  source-start q D m = ⊎-elim (begun (beginsAt b q)) followed (List·Memᴰ·append-cases (cond (beginsAt b q) (freeDisjunct (b .variables) ∷ []) []) m)
-    where
-      begun : (t : Bool) → List·Memᴰ D (cond t (freeDisjunct (b .variables) ∷ []) []) → List·Memᴰ D starts
-      begun true k = List·Memᴰ·head (List·Memᴰ·eq-of-singleton k)
-      begun false k = absurd (List·Memᴰ·not-nil k)
-
-      followed : List·Memᴰ D (map (λ h. h .disjunct) (keep (λ h. followsAt b (h .position) q) held)) → List·Memᴰ D starts
-      followed k =
-          let (h, n, x) = mem-map _ D _ .0 k in
-          List·Memᴰ·tail (mem-map _ D held .1 (h, mem-keep _ h held .0 n .0, x))
+  source-start q D m =
+      ⊎-elim (λ s. List·Memᴰ·head (s .1)) (λ s. List·Memᴰ·tail (mem-map _ D held .1 (s .0, s .1, s .3))) (source-cases b held q m)
 
   module _ (e : Event) where
     abbrev meeting : Symbol → Disjunct → Valuation
@@ -61,23 +52,18 @@ module _ (b : Book) (held : List Held) where
     candidates = gather (λ s. map (meeting s) starts) (b .symbols)
 
     row-candidate : soundBook b ≡ true → (σ : Valuation) → List·Memᴰ σ (rows b held e) → List·Memᴰ σ candidates
-    unfolding rows stepSet
     row-candidate sb σ m =
-        let (q, k, n) = mem-gather _ σ _ .0 (mem-setOf valuation-order σ _ .0 m) in
-        let (D, d, x) = mem-map _ σ _ .0 n in
-        let (E, f, y) = mem-map _ D _ .0 (mem-setOf disjunct-order D _ .0 d) in
-        let started : List·Memᴰ E starts = source-start q E (mem-keep _ E _ .0 f .0) in
-        mem-gather _ σ _ .1
-        (symbolOf b q, symbol-mem b sb q (mem-keep _ q _ .0 k .0), mem-map (meeting (symbolOf b q)) σ starts .1 (E, started, x ∙ ap valuationOf y))
+        let (q, k, _, (D, d, x)) = rows-member b held e σ .0 m in
+        let (E, f, _, y) = stepSet-member b held e q D .0 d in
+        let started : List·Memᴰ E starts = source-start q E f in
+        mem-gather _ σ _ .1 (symbolOf b q, symbol-mem b sb q k, mem-map (meeting (symbolOf b q)) σ starts .1 (E, started, x ∙ ap valuationOf y))
 
 pub few-rows : (b : Book) → soundBook b ≡ true → (held : List Held) → soundHeld b held ≡ true → (e : Event) → length (rows b held e) ≤ 16 * 129
-unfolding rows
 few-rows b sb held sh e =
     let few = sound-few b sb .0 in
     let low = held-few b held sh in
-    let sorted : ascending compareValuations (rows b held e) ≡ true = rw (setOf-ascending valuation-order) in
     omega (
       arith,
-      ascending-length valuation-order (rows b held e) (candidates b held e) sorted (row-candidate b held e sb),
+      ascending-length valuation-order (rows b held e) (candidates b held e) (rows-ascending b held e) (row-candidate b held e sb),
       length-gather (λ s. map (meeting b held e s) (starts b held)) 129 (b .symbols) (λ s m. simp length-map (omega arith)),
     )

@@ -3,18 +3,17 @@ use mathlib.Core.Path.{_≡_, refl, sym, ap, ap₂, _∙_}
 use mathlib.Core.Bool.{Bool, true, false, cond, not, _&&_, and-assoc, and-false}
 use mathlib.Core.List.{List, [], _∷_, map, List·Memᴰ}
 use mathlib.Core.Logic.{⊎-elim}
-use Prim.Native.Nat.{ℕ, zero, suc, _^_, _≤_, _<_, compare}
+use Prim.Native.Nat.{ℕ, zero, suc, _+_, _^_, _≤_, _<_, compare}
 use native.Mathlib.Omega.{arith}
 use lib.Dec.{eqb, leb}
 use lib.ListN.{length, getD, set, length-map, replicate, length-replicate}
 use borrow.Author.Tests.{lt-ltb, le-leb, eq-eqb, eqb-true}
 use Rattle.laws.specs.Bits.{bit}
-use Rattle.laws.specs.Lists.{all, keep, gather, numbers}
+use Rattle.laws.specs.Lists.{all, gather, numbers}
 use Rattle.laws.specs.Order.{andThen, ascending}
-use Rattle.laws.specs.Sets.{insertAll}
 use Rattle.laws.proofs.Lists.{and-true-split, all-at, all-of, all-map, mem-map, mem-gather, mem-numbers, length-numbers}
 use Rattle.laws.proofs.Order.{compare-order, lt-compare}
-use Rattle.laws.proofs.Sets.{all-insert, insert-ascending, insertAll-ascending, setOf-ascending, append-ascending, map-ascending}
+use Rattle.laws.proofs.Sets.{all-insert, insert-ascending, append-ascending, map-ascending}
 use Rattle.pattern.specs.Regex.{Regex, In, nullable}
 use Rattle.pattern.specs.Positions as Positions
 use Rattle.pattern.proofs.Masks.{beginning-among, ending-among, following-among, beginning-below, ending-below, following-below}
@@ -23,17 +22,19 @@ use Rattle.pattern.proofs.Words.{empty-word}
 use Rattle.meaning.specs.Events.{Place, ignored, names, Symbol, Event, word32, wellFormed, Demand, Constraint, never, demands}
 use Rattle.meaning.specs.Events.{matches, demandsOf, consistent, constraintOf}
 use Rattle.meaning.specs.Meaning.{Tracematch}
-use Rattle.meaning.specs.Book.{Book, bookOf, Proper, positions, goesOn, symbolOf, soundMask, soundBook}
-use Rattle.meaning.specs.Labels.{Entry, bound, free, Disjunct, entryOf, exclusions, bind, meets, met, excluding, exclude}
+use Rattle.meaning.specs.Book.{Book, bookOf, Proper, symbolOf, soundMask, soundBook}
+use Rattle.meaning.specs.Labels.{Entry, bound, free, Disjunct, entryOf, exclusions, bind, met, excluding, exclude}
 use Rattle.meaning.specs.Labels.{skipOne, skipBy, skipThrough, Held, heldAt, compareDisjuncts, compareHeld, labelOf}
-use Rattle.meaning.specs.Labels.{sources, stepSet, skipSet, newLabel, newHeld}
+use Rattle.meaning.specs.Labels.{sources, stepSet, skipSet, newLabel, newHeld, State, fresh, next}
 use Rattle.meaning.specs.Room.{fewExclusions, setRoom, skipRoom, room}
-use Rattle.meaning.specs.Rows.{rows, leavesFree}
-use Rattle.meaning.specs.Sound.{soundEntry, soundPiece, soundHeld}
-use Rattle.meaning.specs.Runs.{Call, run, heldAfter, OrderlyFrom, finished, accepts, refuses, Orderly}
-use Rattle.meaning.proofs.Orders.{disjunct-order, held-order}
+use Rattle.meaning.specs.Rows.{leavesFree}
+use Rattle.meaning.specs.Sound.{soundEntry, soundPiece, soundHeld, eventLimit, soundState}
+use Rattle.meaning.specs.Runs.{Call, event, traceOf, run, stateAfter, heldAfter, OrderlyFrom, finished, accepts, refuses, Orderly}
+use Rattle.meaning.proofs.Orders.{held-order}
 use Rattle.meaning.proofs.Fits.{met-length, skip-length}
-use Rattle.meaning.proofs.Stems.{asked, label-held, skip-cases, skip-kept, source-cases, step-source, new-cases}
+use Rattle.meaning.proofs.Members.{stepSet-member, newLabel-ascending}
+use Rattle.meaning.proofs.NoRoom.{room-parts}
+use Rattle.meaning.proofs.Stems.{asked, label-held, skip-cases, skip-kept, source-cases, new-cases}
 use Rattle.meaning.proofs.Bound.{none-left-free}
 
 pub fresh-sound : (b : Book) → soundHeld b [] ≡ true
@@ -152,7 +153,7 @@ module _ (b : Book) (held : List Held) (sh : soundHeld b held ≡ true) (e : Eve
 
   step-sound : (q : ℕ) (D : Disjunct) → List·Memᴰ D (stepSet b held e q) → Sound (b .variables) D
   step-sound q D m =
-      let r = step-source b held e q m in
+      let r = stepSet-member b held e q D .0 m in
       let c = constraintOf (symbolOf b q) e in
       let old = source-sound q (r .0) (r .1) in
       rw (r .3) (met-length (r .0) c ∙ old .0, met-sound c (r .0) (constraint-words (symbolOf b q) e we) (old .1))
@@ -188,33 +189,12 @@ labels-ascend f h k (suc n) =
     let j = mem-map (heldAt (g .0)) y (f (g .0)) .0 (g .2) in
     rw (i .2, j .2, lt-compare k (g .0) (mem-numbers (g .0) (suc k) n .0 (g .1) .0))
 
-step-ascends : (b : Book) (held : List Held) (e : Event) (q : ℕ) → ascending compareDisjuncts (stepSet b held e q) ≡ true
-unfolding stepSet
-step-ascends b held e q =
-    let c = constraintOf (symbolOf b q) e in
-    setOf-ascending disjunct-order (map (λ D. met D c) (keep (λ D. meets D c) (sources b held q)))
-
-label-ascends : (b : Book) (held : List Held) (e : Event) (p : ℕ) → ascending compareDisjuncts (newLabel b held e p) ≡ true
-unfolding newLabel
-label-ascends b held e p = go (goesOn b p)
-  where
-    go : (t : Bool) → ascending compareDisjuncts (cond t (insertAll compareDisjuncts (skipSet b held e p) (stepSet b held e p)) []) ≡ true
-    go true = insertAll-ascending disjunct-order (skipSet b held e p) (stepSet b held e p) (step-ascends b held e p)
-    go false = refl
-
-room-parts : (b : Book) (held : List Held) (e : Event) → room b held e ≡ true → (leb (length (newHeld b held e)) 128 ≡ true)
-    × (all (λ p. skipRoom (map (λ s. constraintOf s e) (b .symbols)) (labelOf held p)) (positions b) ≡ true)
-unfolding room
-room-parts b held e r =
-    let parts = and-true-split _ (leb (length (newHeld b held e)) 128) r in
-    (parts .1, and-true-split (all (λ q. leb (length (stepSet b held e q)) 128) (positions b)) _ (parts .0) .1)
-
 pub kept : (b : Book) → soundBook b ≡ true → (held : List Held) → soundHeld b held ≡ true → (e : Event) → wellFormed e ≡ true
     → room b held e ≡ true → soundHeld b (newHeld b held e) ≡ true
 unfolding soundHeld soundPiece newHeld
 kept b sb held sh e we r =
-    ap₂ _&&_ (ap₂ _&&_ (room-parts b held e r .0) (all-of (soundPiece b) (newHeld b held e) piece))
-    (labels-ascend (newLabel b held e) (label-ascends b held e) 1 (length (b .occurrences)))
+    ap₂ _&&_ (ap₂ _&&_ (room-parts b held e r .2) (all-of (soundPiece b) (newHeld b held e) piece))
+    (labels-ascend (newLabel b held e) (newLabel-ascending b held e) 1 (length (b .occurrences)))
   where
     piece : (h : Held) → List·Memᴰ h (newHeld b held e) → soundPiece b h ≡ true
     piece h m =
@@ -276,15 +256,28 @@ proper-sound tm ok = let r = tm .pattern in rw (
   not-nullable r (ok .nonempty),
 )
 
-run-sound : (b : Book) → soundBook b ≡ true → {held : List Held} {cs : List Call} → soundHeld b held ≡ true → OrderlyFrom b held cs
-    → soundHeld b (run (newHeld b) (rows b) held cs) ≡ true
+run-state : (b : Book) (s : State) (cs : List Call) (n : ℕ) → n ≡ s .number + length (traceOf cs)
+    → run (next b) s cs ≡ record { number = n; held = run (newHeld b) (s .held) cs }
+run-state b s [] n h = let e : n ≡ s .number = omega arith in rw e
+run-state b s (event e true ∷ cs) n h = run-state b (next b s e) cs n (omega arith)
+run-state b s (event e false ∷ cs) n h = run-state b s cs n h
+
+-- the state after a run: as many events as its trace has, and what is held
+pub state-after : (tm : Tracematch) (cs : List Call) → stateAfter tm cs ≡ record { number = length (traceOf cs); held = heldAfter tm cs }
+state-after tm cs = run-state (bookOf tm) fresh cs (length (traceOf cs)) (omega arith)
+
+run-sound : (b : Book) → soundBook b ≡ true → {s : State} {cs : List Call} → soundState b s ≡ true → OrderlyFrom b s cs
+    → soundState b (run (next b) s cs) ≡ true
+unfolding soundState
 run-sound b sb h finished = h
-run-sound b sb {held} h (accepts {e = e} w r o) = run-sound b sb (kept b sb held h e w r) o
+run-sound b sb {s} h (accepts {e = e} w l r o) =
+    run-sound b sb (ap₂ _&&_ (le-leb _ _ l) (kept b sb (s .held) (and-true-split (leb (s .number) eventLimit) _ h .1) e w r)) o
 run-sound b sb h (refuses o) = run-sound b sb h o
 
 -- after every run that accepts only well-formed events for which there is room: nothing that answer 9 covers
 pub never-unsound : (tm : Tracematch) → Proper tm → (cs : List Call) → Orderly (bookOf tm) cs → (e : Event)
-    → (soundBook (bookOf tm) ≡ true) × (soundHeld (bookOf tm) (heldAfter tm cs) ≡ true) × (leavesFree (bookOf tm) (heldAfter tm cs) e ≡ false)
+    → (soundBook (bookOf tm) ≡ true) × (soundState (bookOf tm) (stateAfter tm cs) ≡ true) × (leavesFree (bookOf tm) (stateAfter tm cs .held) e ≡ false)
+unfolding soundState
 never-unsound tm ok cs ord e =
     let sb = proper-sound tm ok in
-    (sb, run-sound (bookOf tm) sb (fresh-sound (bookOf tm)) ord, none-left-free tm ok cs e)
+    (sb, run-sound (bookOf tm) sb (fresh-sound (bookOf tm)) ord, rw (state-after tm cs) (none-left-free tm ok cs e))

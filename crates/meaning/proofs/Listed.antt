@@ -2,26 +2,23 @@
 -- accepted event are, ascending and once each, exactly the valuations of the declarative meaning.
 use mathlib.Core.Path.{_≡_, refl, sym, ap, _∙_, subst}
 use mathlib.Core.Bool.{Bool, true, false, not, _&&_, _||_, true≢false, and-false}
-use mathlib.Core.List.{List, [], _∷_, _++_, map, reverse, reverseAux, reverse-reverse, reverseAux-eq, reverse-cons, List·Memᴰ}
-use mathlib.Core.Logic.{_↔_, Iff·trans, Iff·symm}
+use mathlib.Core.List.{List, [], _∷_, _++_, reverse, reverseAux, reverse-reverse, reverse-cons, List·Memᴰ}
 use Prim.Native.Nat.{ℕ, zero, suc, _-_, _<_}
 use native.Mathlib.Omega.{arith}
 use lib.Dec.{eqb}
-use lib.ListN.{length, getD, take, length-append, length-reverse, length-map, drop, take-append-drop}
+use lib.ListN.{length, getD, take, length-reverse, length-map, drop, take-append-drop}
 use borrow.Author.Tests.{eqb-true, eq-eqb}
 use Rattle.laws.specs.Bits.{bit}
-use Rattle.laws.specs.Lists.{any, all, keep, gather}
-use Rattle.laws.specs.Order.{ascending}
+use Rattle.laws.specs.Lists.{any, all}
 use Rattle.laws.proofs.Bits.{bit-zero}
-use Rattle.laws.proofs.Lists.{any-agree, any-false, any-and, any-keep, any-found, any-of, mem-keep, mem-map, mem-gather, all-at, all-append, same-test, and-true-split}
-use Rattle.laws.proofs.Sets.{mem-setOf, setOf-ascending}
+use Rattle.laws.proofs.Lists.{any-agree, any-false, any-found, any-of, all-at, all-append, same-test, and-true-split}
 use Rattle.meaning.specs.Events.{Event, Valuation, wellFormed, isValuation, holds, concerns}
 use Rattle.meaning.specs.Meaning.{Tracematch, noEvent, Match, Row}
 use Rattle.meaning.specs.Book.{Book, bookOf, Proper, soundSymbol, positions, beginsAt, endsAt, followers, followsAt, goesOn, symbolOf}
-use Rattle.meaning.specs.Labels.{Disjunct, Held, isFree, stepSet, skipSet, newHeld}
-use Rattle.meaning.specs.Rows.{rows, compareValuations, valueOf, valuationOf, leavesFree}
+use Rattle.meaning.specs.Labels.{Held, stepSet, skipSet, newHeld}
+use Rattle.meaning.specs.Rows.{rows, valueOf, leavesFree}
 use Rattle.meaning.specs.Runs.{Call, event, traceOf, run, given, heldAfter, rowLists, Listed}
-use Rattle.meaning.proofs.Orders.{valuation-order}
+use Rattle.meaning.proofs.Members.{rows-member, rows-ascending}
 use Rattle.meaning.proofs.Fits.{fits, closed-fits}
 use Rattle.meaning.proofs.Step.{wide, stepSet-wide, newHeld-wide, stepSet-fits, skipSet-fits, newHeld-fits}
 use Rattle.meaning.proofs.Automaton.{steps, reached, completed, completed-match, match-valuation, match-prefix}
@@ -41,7 +38,7 @@ rowLists-length tm cs = given-length (newHeld (bookOf tm)) (rows (bookOf tm)) []
 record AtEvent {S R : Type 0} (step : S → Event → S) (give : S → Event → R) (d : R) (s : S) (cs : List Call) (i : ℕ) : Type 0 where
   before : List Call
   now : Event
-  gave : getD (given step give s cs) i d ≡ give (run step give s before) now
+  gave : getD (given step give s cs) i d ≡ give (run step s before) now
   trace : take (suc i) (traceOf cs) ≡ traceOf before ++ (now ∷ [])
   at : getD (traceOf cs) i noEvent ≡ now
   count : length (traceOf before) ≡ i
@@ -80,31 +77,6 @@ follows-on b p q h = go (eqb (followers b p) 0) refl
     go true e = absurd (true≢false (sym h ∙ ap (bit q) (eqb-true _ _ e) ∙ bit-zero q))
     go false e = refl
 
--- where a row comes from
-record Origin (b : Book) (held : List Held) (e : Event) (σ : Valuation) : Type 0 where
-  position : ℕ
-  among : List·Memᴰ position (positions b)
-  ends : endsAt b position ≡ true
-  disjunct : Disjunct
-  step : List·Memᴰ disjunct (stepSet b held e position)
-  value : σ ≡ valuationOf disjunct
-
-module _ (b : Book) (held : List Held) (e : Event) (σ : Valuation) where
-  row-origin : List·Memᴰ σ (rows b held e) → Origin b held e σ
-  unfolding rows
-  row-origin m =
-      let g = mem-gather _ σ _ .0 (mem-setOf valuation-order σ _ .0 m) in
-      let k = mem-keep (endsAt b) (g .0) (positions b) .0 (g .1) in
-      let d = mem-map valuationOf σ _ .0 (g .2) in
-      record { position = g .0; among = k .0; ends = k .1; disjunct = d .0; step = d .1; value = d .2 }
-
-  row-of : Origin b held e σ → List·Memᴰ σ (rows b held e)
-  unfolding rows
-  row-of r =
-      mem-setOf valuation-order σ _ .1
-      (mem-gather _ σ _ .1
-      (r .position, mem-keep (endsAt b) (r .position) (positions b) .1 (r .among, r .ends), mem-map valuationOf σ _ .1 (r .disjunct, r .step, r .value)))
-
 module _ (b : Book) (formed : all (soundSymbol (b .variables)) (b .symbols) ≡ true) where
   tracks-fresh : Tracks b [] []
   tracks-fresh = record { full = refl; stands = λ σ w F. sym (any-agree _ (λ p. false) (positions b) (λ p m. simp (and-false)) ∙ any-false (positions b)) }
@@ -137,7 +109,11 @@ module _ (b : Book) (formed : all (soundSymbol (b .variables)) (b .symbols) ≡ 
         (λ a. any-of _ m (rw (eq-eqb p p refl, g, a))))
 
   tracks-next : (held : List Held) (t : List Event) → Tracks b held t → (e : Event) → Tracks b (newHeld b held e) (e ∷ t)
-  tracks-next held t inv e = record { full = newHeld-wide b formed held (inv .full) e; stands = λ σ w F. newHeld-fits b formed held (inv .full) e σ w F ∙ any-agree _ _ (positions b) (λ p m. ap (F p &&_) (go p m σ w (goesOn b p) refl)) }
+  tracks-next held t inv e = record {
+    full = newHeld-wide b formed held (inv .full) e;
+    stands = λ σ w F.
+        newHeld-fits b formed held (inv .full) e σ w F ∙ any-agree _ _ (positions b) (λ p m. ap (F p &&_) (go p m σ w (goesOn b p) refl));
+  }
     where
       go : (p : ℕ) → List·Memᴰ p (positions b) → (σ : Valuation) → length σ ≡ b .variables → (g : Bool) → goesOn b p ≡ g
           → (g && (any (fits σ) (skipSet b held e p) || any (fits σ) (stepSet b held e p))) ≡ (g && reached b σ (e ∷ t) p)
@@ -145,7 +121,7 @@ module _ (b : Book) (formed : all (soundSymbol (b .variables)) (b .symbols) ≡ 
       go p m σ w false g = refl
 
   tracks-run : (held : List Held) (t : List Event) → Tracks b held t → (cs : List Call)
-      → Tracks b (run (newHeld b) (rows b) held cs) (reverseAux (traceOf cs) t)
+      → Tracks b (run (newHeld b) held cs) (reverseAux (traceOf cs) t)
   tracks-run held t inv [] = inv
   tracks-run held t inv (event e true ∷ cs) = tracks-run (newHeld b held e) (e ∷ t) (tracks-next held t inv e) cs
   tracks-run held t inv (event e false ∷ cs) = tracks-run held t inv cs
@@ -154,16 +130,15 @@ module _ (b : Book) (formed : all (soundSymbol (b .variables)) (b .symbols) ≡ 
   module _ (held : List Held) (t : List Event) (inv : Tracks b held t) (e : Event) (none : leavesFree b held e ≡ false) (σ : Valuation) where
     row-width : List·Memᴰ σ (rows b held e) → length σ ≡ b .variables
     row-width m =
-        let r = row-origin b held e σ m in
-        ap length (r .value) ∙ length-map (r .disjunct) valueOf
-        ∙ eqb-true _ _ (all-at (λ D. eqb (length D) (b .variables)) (stepSet-wide b formed held (inv .full) e (r .position)) (r .step))
+        let (q, among, ends, (D, step, value)) = rows-member b held e σ .0 m in
+        ap length value ∙ length-map D valueOf
+        ∙ eqb-true _ _ (all-at (λ E. eqb (length E) (b .variables)) (stepSet-wide b formed held (inv .full) e q) step)
 
     row-completed : List·Memᴰ σ (rows b held e) → completed b σ t e ≡ true
     row-completed m =
-        let r = row-origin b held e σ m in
-        let none-free = closed b held e none (r .position) (r .among) (r .ends) (r .disjunct) (r .step) in
-        let stands = any-of (fits σ) (r .step) (closed-fits σ (r .disjunct) none-free .1 (r .value)) in
-        any-of _ (r .among) (rw (r .ends, ← step-stands held t inv e σ (row-width m) (r .position)) stands)
+        let (q, among, ends, (D, step, value)) = rows-member b held e σ .0 m in
+        let stands = any-of (fits σ) step (closed-fits σ D (closed b held e none q among ends D step) .1 value) in
+        any-of _ among (rw (ends, ← step-stands held t inv e σ (row-width m) q) stands)
 
     completed-row : length σ ≡ b .variables → completed b σ t e ≡ true → List·Memᴰ σ (rows b held e)
     completed-row w h =
@@ -171,19 +146,7 @@ module _ (b : Book) (formed : all (soundSymbol (b .variables)) (b .symbols) ≡ 
         let s = and-true-split (endsAt b (f .0)) _ (f .2) in
         let g = any-found (fits σ) (stepSet b held e (f .0)) (step-stands held t inv e σ w (f .0) ∙ s .1) in
         let none-free = closed b held e none (f .0) (f .1) (s .0) (g .0) (g .1) in
-        row-of b held e σ record {
-          position = f .0;
-          among = f .1;
-          ends = s .0;
-          disjunct = g .0;
-          step = g .1;
-          value = closed-fits σ (g .0) none-free .0 (g .2);
-        }
-
-rows-ordered : (b : Book) (held : List Held) (e : Event) → ascending compareValuations (rows b held e) ≡ true
-unfolding rows
-rows-ordered b held e =
-    setOf-ascending valuation-order (gather (λ q. map valuationOf (stepSet b held e q)) (keep (endsAt b) (positions b)))
+        rows-member b held e σ .1 (f .0, f .1, s .0, (g .0, g .1, closed-fits σ (g .0) none-free .0 (g .2)))
 
 valuation-length : (n : ℕ) (σ : Valuation) → isValuation n σ ≡ true → length σ ≡ n
 unfolding isValuation
@@ -232,7 +195,7 @@ listed tm ok cs good i h =
     let a : AtEvent (newHeld b) (rows b) [] [] cs i = at-event (newHeld b) (rows b) [] [] cs i h in
     let good′ : all wellFormed (traceOf (a .before) ++ (a .now ∷ [])) ≡ true = rw (← a .trace) (all-take wellFormed (suc i) (traceOf cs) good) in
     record {
-      ordered = rw (a .gave) (rows-ordered b (heldAfter tm (a .before)) (a .now));
+      ordered = rw (a .gave) (rows-ascending b (heldAfter tm (a .before)) (a .now));
       exact = λ σ. rw (a .gave) (forth a good′ σ, back a good′ σ);
     }
   where

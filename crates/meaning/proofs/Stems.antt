@@ -1,34 +1,24 @@
--- Where the disjuncts of a new state stem from: members of sources, of step and skip sets, and of all new labels.
+-- Where the disjuncts of a new state stem from: members of labels, of sources, of skip sets, and of all new labels.
 use mathlib.Core.Path.{_≡_, refl}
 use mathlib.Core.Bool.{Bool, true, false, cond}
 use mathlib.Core.List.{List, [], _∷_, map, List·Memᴰ}
 use mathlib.Core.List.{List·Memᴰ·not-nil, List·Memᴰ·eq-of-singleton, List·Memᴰ·append-cases}
-use mathlib.Core.Logic.{_⊎_, inl, inr, ⊎-map}
+use mathlib.Core.Logic.{_⊎_, inl, inr, ⊎-map, ⊎-swap}
 use Prim.Native.Nat.{ℕ}
 use lib.Dec.{eqb}
 use borrow.Author.Tests.{eqb-true}
-use Rattle.laws.specs.Lists.{keep, gather}
-use Rattle.laws.specs.Sets.{insertAll}
-use Rattle.laws.proofs.Lists.{mem-keep, mem-map, mem-gather}
-use Rattle.laws.proofs.Sets.{mem-setOf, mem-insertAll}
+use Rattle.laws.specs.Lists.{keep}
+use Rattle.laws.proofs.Lists.{mem-picked}
 use Rattle.meaning.specs.Events.{Symbol, Event, Demand, Constraint, never, demands, constraintOf}
-use Rattle.meaning.specs.Book.{Book, positions, beginsAt, followsAt, goesOn, symbolOf}
-use Rattle.meaning.specs.Labels.{Disjunct, freeDisjunct, entryOf, isFree, meetsAll, meets, met, exclude, skipOne, skipBy, skipThrough}
-use Rattle.meaning.specs.Labels.{Held, heldAt, labelOf, compareDisjuncts, sources, stepSet, skipSet, newLabel, newHeld}
-use Rattle.meaning.proofs.Orders.{disjunct-order}
-
--- elements of a list picked by a test and mapped
-picked : {A B : Type 0} (f : A → Bool) (g : A → B) (y : B) (l : List A) → List·Memᴰ y (map g (keep f l))
-    → (x : A) × List·Memᴰ x l × (f x ≡ true) × (y ≡ g x)
-picked f g y l m =
-    let r = mem-map g y (keep f l) .0 m in
-    let k = mem-keep f (r .0) l .0 (r .1) in
-    (r .0, k .0, k .1, r .2)
+use Rattle.meaning.specs.Book.{Book, positions, beginsAt, followsAt}
+use Rattle.meaning.specs.Labels.{Disjunct, freeDisjunct, entryOf, isFree, meetsAll, exclude, skipOne, skipBy, skipThrough}
+use Rattle.meaning.specs.Labels.{Held, labelOf, sources, stepSet, skipSet, newHeld}
+use Rattle.meaning.proofs.Members.{skipBy-member, newLabel-member, newHeld-member}
 
 pub label-held : (held : List Held) (p : ℕ) {D : Disjunct} → List·Memᴰ D (labelOf held p)
     → (h : Held) × List·Memᴰ h held × (h .position ≡ p) × (D ≡ h .disjunct)
 label-held held p {D} m =
-    let r = picked (λ h. eqb (h .position) p) (λ h. h .disjunct) D held m in
+    let r = mem-picked (λ h. eqb (h .position) p) (λ h. h .disjunct) D held .0 m in
     (r .0, r .1, eqb-true _ _ (r .2), r .3)
 
 -- the demands of a constraint
@@ -45,7 +35,7 @@ skip-cases (demands ds) D {E} m = go (meetsAll D ds) m
     isOpen d = isFree (entryOf D (d .variable))
 
     go : (t : Bool) → List·Memᴰ E (cond t (map (exclude D) (keep isOpen ds)) (D ∷ [])) → (E ≡ D) ⊎ ((d : Demand) × List·Memᴰ d ds × (E ≡ exclude D d))
-    go true n = let r = picked isOpen (exclude D) E ds n in inr (r .0, r .1, r .3)
+    go true n = let r = mem-picked isOpen (exclude D) E ds .0 n in inr (r .0, r .1, r .3)
     go false n = inl (List·Memᴰ·eq-of-singleton n)
 
 -- what holds of all disjuncts of a set and is kept past each symbol holds of all that come through
@@ -53,12 +43,9 @@ module _ (e : Event) (P : Disjunct → Type 0)
     (past : (s : Symbol) (D : Disjunct) → P D → (E : Disjunct) → List·Memᴰ E (skipOne (constraintOf s e) D) → P E) where
   through-kept : (ss : List Symbol) (l : List Disjunct) → ((D : Disjunct) → List·Memᴰ D l → P D)
       → (D : Disjunct) → List·Memᴰ D (skipThrough (map (λ s. constraintOf s e) ss) l) → P D
-  unfolding skipBy
   through-kept [] l here D m = here D m
-  through-kept (s ∷ ss) l here D m =
-      let skip = skipOne (constraintOf s e) in
-      through-kept ss (skipBy (constraintOf s e) l)
-      (λ E k. let r = mem-gather skip E l .0 (mem-setOf disjunct-order E (gather skip l) .0 k) in past s (r .0) (here (r .0) (r .1)) E (r .2)) D m
+  through-kept (s ∷ ss) l here D m = let c = constraintOf s e in
+      through-kept ss (skipBy c l) (λ E k. let r = skipBy-member c l E .0 k in past s (r .0) (here (r .0) (r .1)) E (r .2)) D m
 
   pub skip-kept : (b : Book) (held : List Held) (p : ℕ) → ((D : Disjunct) → List·Memᴰ D (labelOf held p) → P D)
       → (D : Disjunct) → List·Memᴰ D (skipSet b held e p) → P D
@@ -70,7 +57,7 @@ module _ (b : Book) (held : List Held) where
       ⊎ ((h : Held) × List·Memᴰ h held × (followsAt b (h .position) q ≡ true) × (D ≡ h .disjunct))
   unfolding sources
   source-cases q {D} m =
-      ⊎-map (go (beginsAt b q) refl) (picked (λ h. followsAt b (h .position) q) (λ h. h .disjunct) D held)
+      ⊎-map (go (beginsAt b q) refl) (mem-picked (λ h. followsAt b (h .position) q) (λ h. h .disjunct) D held .0)
       (List·Memᴰ·append-cases (cond (beginsAt b q) (freeDisjunct (b .variables) ∷ []) []) m)
     where
       go : (t : Bool) → beginsAt b q ≡ t → List·Memᴰ D (cond t (freeDisjunct (b .variables) ∷ []) [])
@@ -78,22 +65,6 @@ module _ (b : Book) (held : List Held) where
       go true e k = (e, List·Memᴰ·eq-of-singleton k)
       go false e k = absurd (List·Memᴰ·not-nil k)
 
-  module _ (e : Event) where
-    pub step-source : (q : ℕ) {D : Disjunct} → List·Memᴰ D (stepSet b held e q)
-        → (E : Disjunct) × List·Memᴰ E (sources b held q) × (meets E (constraintOf (symbolOf b q) e) ≡ true) × (D ≡ met E (constraintOf (symbolOf b q) e))
-    unfolding stepSet
-    step-source q {D} m = let c = constraintOf (symbolOf b q) e in
-        picked (λ E. meets E c) (λ E. met E c) D (sources b held q) (mem-setOf disjunct-order D _ .0 m)
-
-    pub new-cases : (h : Held) → List·Memᴰ h (newHeld b held e) → List·Memᴰ (h .position) (positions b)
-        × (List·Memᴰ (h .disjunct) (skipSet b held e (h .position)) ⊎ List·Memᴰ (h .disjunct) (stepSet b held e (h .position)))
-    unfolding newHeld newLabel
-    new-cases h m =
-        let r = mem-gather (λ p. map (heldAt p) (newLabel b held e p)) h (positions b) .0 m in
-        let k = mem-map (heldAt (r .0)) h (newLabel b held e (r .0)) .0 (r .2) in
-        rw (k .2) (r .1, go (r .0) (k .0) (goesOn b (r .0)) (k .1))
-      where
-        go : (p : ℕ) (D : Disjunct) (t : Bool) → List·Memᴰ D (cond t (insertAll compareDisjuncts (skipSet b held e p) (stepSet b held e p)) [])
-            → List·Memᴰ D (skipSet b held e p) ⊎ List·Memᴰ D (stepSet b held e p)
-        go p D true n = mem-insertAll disjunct-order D (skipSet b held e p) (stepSet b held e p) .0 n
-        go p D false n = absurd (List·Memᴰ·not-nil n)
+  pub new-cases : (e : Event) (h : Held) → List·Memᴰ h (newHeld b held e) → List·Memᴰ (h .position) (positions b)
+      × (List·Memᴰ (h .disjunct) (skipSet b held e (h .position)) ⊎ List·Memᴰ (h .disjunct) (stepSet b held e (h .position)))
+  new-cases e h m = let r = newHeld-member b held e h m in (r .0, ⊎-swap (newLabel-member b held e (h .position) (h .disjunct) .0 (r .1) .1))

@@ -1,7 +1,7 @@
 -- Step sets, skip sets and new labels read for one valuation.
 use mathlib.Core.Path.{_≡_, refl, sym, ap, ap₂, _∙_}
 use mathlib.Core.Bool.{Bool, true, false, cond, not, _&&_, _||_, and-true, and-comm, or-false}
-use mathlib.Core.List.{List, [], _∷_, map, List·Memᴰ, List·Memᴰ·not-nil, List·Memᴰ·append-cases, List·Memᴰ·eq-of-singleton}
+use mathlib.Core.List.{List, [], _∷_, map, List·Memᴰ}
 use mathlib.Core.Logic.{⊎-elim}
 use Prim.Native.Nat.{ℕ, zero, suc, _-_}
 use lib.Dec.{eqb, leb}
@@ -10,14 +10,15 @@ use borrow.Author.Tests.{eqb-true, eq-eqb}
 use Rattle.laws.specs.Lists.{any, all, keep, gather}
 use Rattle.laws.specs.Sets.{insertAll, setOf}
 use Rattle.laws.proofs.Lists.{and-true-split, any-append, any-map, any-keep, any-gather, any-agree, any-and, all-map, all-at, all-of}
-use Rattle.laws.proofs.Lists.{mem-keep, mem-map, mem-gather}
-use Rattle.laws.proofs.Sets.{any-insertAll, mem-insertAll, mem-setOf}
+use Rattle.laws.proofs.Sets.{any-insertAll}
 use Rattle.meaning.specs.Events.{Symbol, Event, Constraint, constraintOf, Valuation, satisfies, holds, concerns}
 use Rattle.meaning.specs.Meaning.{noSymbol}
 use Rattle.meaning.specs.Book.{Book, soundPlace, soundSymbol, positions, beginsAt, followsAt, goesOn, symbolOf}
 use Rattle.meaning.specs.Labels.{free, Disjunct, freeDisjunct, compareDisjuncts, meets, met, skipOne, skipBy, skipThrough}
 use Rattle.meaning.specs.Labels.{Held, heldAt, labelOf, sources, stepSet, skipSet, newLabel, newHeld}
 use Rattle.meaning.proofs.Orders.{disjunct-order}
+use Rattle.meaning.proofs.Members.{skipBy-member, stepSet-member, newLabel-member, newHeld-member}
+use Rattle.meaning.proofs.Stems.{label-held, source-cases}
 use Rattle.meaning.proofs.Fits.{fits, inRange, constraint-inRange, met-length, skip-length, free-fits, met-fits, skip-fits}
 
 -- every held disjunct has an entry for each variable
@@ -29,9 +30,8 @@ abbrev Long : ℕ → List Disjunct → Type 0
 Long n l = (D : Disjunct) → List·Memᴰ D l → length D ≡ n
 
 skipBy-long : (n : ℕ) (c : Constraint) (l : List Disjunct) → Long n l → Long n (skipBy c l)
-unfolding skipBy
 skipBy-long n c l h D m =
-    let r = mem-gather (skipOne c) D l .0 (mem-setOf disjunct-order D (gather (skipOne c) l) .0 m) in
+    let r = skipBy-member c l D .0 m in
     eqb-true (length D) n (all-at (λ E. eqb (length E) n) (skip-length c (r .0) n (h (r .0) (r .1))) (r .2))
 
 skipThrough-long : (n : ℕ) (cs : List Constraint) (l : List Disjunct) → Long n l → Long n (skipThrough cs l)
@@ -81,47 +81,34 @@ module _ (σ : Valuation) where
 
 module _ (b : Book) (formed : all (soundSymbol (b .variables)) (b .symbols) ≡ true) (held : List Held)
     (full : wide (b .variables) held ≡ true) (e : Event) where
-  held-long : (f : Held → Bool) → Long (b .variables) (map (λ h. h .disjunct) (keep f held))
-  held-long f D m =
-      let r = mem-map (λ h. h .disjunct) D (keep f held) .0 m in
-      ap length (r .2) ∙ eqb-true (length (r .0 .disjunct)) (b .variables) (all-at _ full (mem-keep f (r .0) held .0 (r .1) .0))
+  old-long : (h : Held) → List·Memᴰ h held → length (h .disjunct) ≡ b .variables
+  old-long h m = eqb-true _ _ (all-at _ full m)
+
+  label-long : (p : ℕ) → Long (b .variables) (labelOf held p)
+  label-long p D m = let r = label-held held p m in ap length (r .3) ∙ old-long (r .0) (r .1)
 
   sources-long : (q : ℕ) → Long (b .variables) (sources b held q)
-  unfolding sources
-  sources-long q D m = ⊎-elim (start (beginsAt b q)) (held-long (λ h. followsAt b (h .position) q) D) (List·Memᴰ·append-cases _ m)
-    where
-      start : (c : Bool) → List·Memᴰ D (cond c (freeDisjunct (b .variables) ∷ []) []) → length D ≡ b .variables
-      start true k = ap length (List·Memᴰ·eq-of-singleton k) ∙ length-replicate (b .variables) (free [])
-      start false k = absurd (List·Memᴰ·not-nil k)
+  sources-long q D m =
+      ⊎-elim (λ s. ap length (s .1) ∙ length-replicate (b .variables) (free [])) (λ s. ap length (s .3) ∙ old-long (s .0) (s .1))
+      (source-cases b held q m)
 
   stepSet-long : (q : ℕ) → Long (b .variables) (stepSet b held e q)
-  unfolding stepSet
   stepSet-long q D m =
-      let c : Constraint = constraintOf (symbolOf b q) e in
-      let l : List Disjunct = keep (λ E. meets E c) (sources b held q) in
-      let r = mem-map (λ E. met E c) D l .0 (mem-setOf disjunct-order D _ .0 m) in
-      ap length (r .2) ∙ met-length (r .0) c ∙ sources-long q (r .0) (mem-keep (λ E. meets E c) (r .0) (sources b held q) .0 (r .1) .0)
+      let r = stepSet-member b held e q D .0 m in
+      ap length (r .3) ∙ met-length (r .0) (constraintOf (symbolOf b q) e) ∙ sources-long q (r .0) (r .1)
 
   newLabel-long : (p : ℕ) → Long (b .variables) (newLabel b held e p)
-  unfolding newLabel skipSet
-  newLabel-long p D = go (goesOn b p)
-    where
-      go : (c : Bool) → List·Memᴰ D (cond c (insertAll compareDisjuncts (skipSet b held e p) (stepSet b held e p)) []) → length D ≡ b .variables
-      go true m =
-          let cs : List Constraint = map (λ s. constraintOf s e) (b .symbols) in
-          ⊎-elim (skipThrough-long (b .variables) cs (labelOf held p) (held-long (λ h. eqb (h .position) p)) D) (stepSet-long p D)
-          (mem-insertAll disjunct-order D (skipSet b held e p) (stepSet b held e p) .0 m)
-      go false m = absurd (List·Memᴰ·not-nil m)
+  unfolding skipSet
+  newLabel-long p D m =
+      let cs : List Constraint = map (λ s. constraintOf s e) (b .symbols) in
+      ⊎-elim (stepSet-long p D) (skipThrough-long (b .variables) cs (labelOf held p) (label-long p) D) (newLabel-member b held e p D .0 m .1)
 
   pub stepSet-wide : (q : ℕ) → all (λ D. eqb (length D) (b .variables)) (stepSet b held e q) ≡ true
   stepSet-wide q = all-of _ (stepSet b held e q) (λ D m. eq-eqb (length D) (b .variables) (stepSet-long q D m))
 
   pub newHeld-wide : wide (b .variables) (newHeld b held e) ≡ true
-  unfolding newHeld
   newHeld-wide = all-of _ (newHeld b held e) λ h m.
-      let r = mem-gather (λ p. map (heldAt p) (newLabel b held e p)) h (positions b) .0 m in
-      let s = mem-map (heldAt (r .0)) h (newLabel b held e (r .0)) .0 (r .2) in
-      eq-eqb (length (h .disjunct)) (b .variables) (ap (λ g. length (g .disjunct)) (s .2) ∙ newLabel-long (r .0) (s .0) (s .1))
+      eq-eqb (length (h .disjunct)) (b .variables) (newLabel-long (h .position) (h .disjunct) (newHeld-member b held e h m .1))
 
   module _ (σ : Valuation) (width : length σ ≡ b .variables) where
     sources-fits : (q : ℕ) → any (fits σ) (sources b held q)
@@ -152,7 +139,7 @@ module _ (b : Book) (formed : all (soundSymbol (b .variables)) (b .symbols) ≡ 
     unfolding skipSet concerns holds
     skipSet-fits p =
         skipThrough-fits σ (map (λ s. constraintOf s e) (b .symbols)) (labelOf held p)
-        (λ D m. held-long (λ h. eqb (h .position) p) D m ∙ sym width)
+        (λ D m. label-long p D m ∙ sym width)
         (rw width (all-map (inRange (b .variables)) (λ s. constraintOf s e) (b .symbols)
         ∙ all-of _ (b .symbols) (λ s m. symbol-inRange (b .variables) s e (all-at _ formed m))))
         ∙ ap₂ (λ r t. r && not t) (held-fits σ (λ h. eqb (h .position) p) held)

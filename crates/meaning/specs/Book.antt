@@ -1,9 +1,10 @@
--- The book as the matcher uses it: the pattern as positions and masks (document 01, "Labels and room"), when a
--- tracematch is one that a text can declare ("The book"), and when a book is sound ("What a call hands back").
+-- The book as the matcher uses it: the pattern as positions and masks (document 01, "Labels and room"), what every
+-- accepted text declares ("The book"), and when a book is sound ("What a call hands back").
 use mathlib.Core.Path.{_≡_}
 use mathlib.Core.Bool.{Bool, true, false, not, _&&_}
 use mathlib.Core.List.{List, [], _∷_, map}
 use Prim.Native.Nat.{ℕ, suc, _-_, _^_, _≤_, _<_}
+use lib.Count.{ones}
 use lib.Dec.{eqb, leb, ltb}
 use lib.ListN.{length, getD}
 use Rattle.laws.specs.Bits.{bit, join, single}
@@ -23,7 +24,7 @@ pub record Book : Type 0 where
   pub ends : ℕ
   -- for each position, position 1 first, the positions that follow it
   pub follows : List ℕ
-  -- "the empty word is admitted"
+  -- "empty word admitted"
   pub empty : Bool
 
 -- "Number the symbol occurrences from the left: positions 1 to 31. Position q follows p, begins, or ends a word in the
@@ -65,6 +66,13 @@ module _ (b : Book) where
   abbrev pub symbolOf : ℕ → Symbol
   symbolOf p = getD (b .symbols) (getD (b .occurrences) (p - 1) 0) noSymbol
 
+-- "the book's answer also counts its beginning and its ending positions": "counts of ones of the 32-bit position masks"
+abbrev pub beginCount : Book → ℕ
+beginCount b = ones (b .begins)
+
+abbrev pub endCount : Book → ℕ
+endCount b = ones (b .ends)
+
 -- the variable a place binds
 abbrev pub binds : ℕ → Place → Bool
 binds v ignored = false
@@ -85,7 +93,7 @@ unfoldable pub soundSymbol : ℕ → Symbol → Bool
 soundSymbol variables s =
     leb 1 (s .kind) && leb (s .kind) 255 && leb (length (s .places)) 4 && all (soundPlace variables) (s .places)
 
--- What an accepted text declares: "0 to 4 variable names", "1 to 16 lines `sym NAME KIND ARGS`", declared names in the
+-- What every accepted text declares: "0 to 4 variable names", "1 to 16 lines `sym NAME KIND ARGS`", declared names in the
 -- pattern, "At most 31 symbol occurrences", "No word of the pattern may be empty, and each word must contain, for each
 -- variable, a symbol that binds it."
 pub record Proper (tm : Tracematch) : Type 0 where

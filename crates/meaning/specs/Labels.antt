@@ -134,3 +134,16 @@ module _ (b : Book) (held : List Held) (e : Event) where
   -- all new labels together, in the order of what is held
   unfoldable pub newHeld : List Held
   newHeld = gather (λ p. map (heldAt p) (newLabel p)) (positions b)
+
+-- the state of a watch: how many events it has accepted, and what it holds
+pub record State : Type 0 where
+  pub number : ℕ
+  pub held : List Held
+
+-- "A fresh state has all 128 disjunct places free and event number 0."
+abbrev pub fresh : State
+fresh = record { number = 0; held = [] }
+
+-- the state after an accepted event: "event number (… from 1, counting accepted events)"
+abbrev pub next : Book → State → Event → State
+next b s e = record { number = suc (s .number); held = newHeld b (s .held) e }

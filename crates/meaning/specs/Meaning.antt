@@ -1,4 +1,4 @@
--- The declarative meaning of a tracematch: demand 2 of document 01; source document 000, sections 4.1 to 4.3.
+-- The declarative meaning of a tracematch: demand 2 (README.md); source document 000, sections 4.1 to 4.3.
 -- This page is what a buyer must believe. It mentions no automaton, label or room.
 use mathlib.Core.Path.{_≡_}
 use mathlib.Core.Bool.{true}
@@ -25,12 +25,12 @@ noEvent = record { kind = 0; args = [] }
 
 module _ (tm : Tracematch) (σ : Valuation) where
   -- 000, 4.3, "Filtering": the events "that are matched by some defined symbol in tm, with variable bindings compatible
-  -- with the valuation"; document 01: the stretch "reduced to those that concern the valuation"
+  -- with the valuation"; demand 2: the stretch "reduced to those that concern the valuation"
   abbrev pub concerning : List Event → List Event
   concerning t = keep (λ e. concerns (tm .symbols) e σ) t
 
   -- 000, 4.3, "Matching a trace to a word": as many symbols as events, and each symbol's constraint on its event holds.
-  -- Document 01: "When several hold, each choice gives a reading of the trace."
+  -- Document 01: "When several hold, each choice gives a reading of the trace (document 004)."
   pub data Reading : List Event → List ℕ → Type 0 where
     nothing : Reading [] []
     next : {e : Event} {es : List Event} {a : ℕ} {w : List ℕ} → a < length (tm .symbols)

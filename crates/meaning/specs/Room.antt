@@ -1,14 +1,14 @@
 -- Room: document 01, "No room, exactly: some step set, or some skip set after one of its symbols, exceeds 128; a
 -- variable would have 7 exclusions; or all new labels together exceed 128."
 use mathlib.Core.Bool.{Bool, true, false, _&&_}
-use mathlib.Core.List.{List, [], _∷_, map}
-use Prim.Native.Nat.{ℕ}
+use mathlib.Core.List.{List, [], _∷_, map, List·Memᴰ}
+use Prim.Native.Nat.{ℕ, _≤_, _<_}
 use lib.Dec.{leb}
-use lib.ListN.{length}
+use lib.ListN.{length, take}
 use Rattle.laws.specs.Lists.{all}
 use Rattle.meaning.specs.Events.{Event, Constraint, constraintOf}
 use Rattle.meaning.specs.Book.{Book, positions}
-use Rattle.meaning.specs.Labels.{Disjunct, Held, exclusions, labelOf, stepSet, skipBy, newHeld}
+use Rattle.meaning.specs.Labels.{Entry, Disjunct, Held, exclusions, labelOf, stepSet, skipBy, skipThrough, newHeld}
 
 -- "at most 6 excluded values", "all 128 disjunct places"
 abbrev pub exclusionLimit : ℕ
@@ -34,3 +34,15 @@ room b held e =
     all (λ q. leb (length (stepSet b held e q)) heldLimit) (positions b)
     && all (λ p. skipRoom (map (λ s. constraintOf s e) (b .symbols)) (labelOf held p)) (positions b)
     && leb (length (newHeld b held e)) heldLimit
+
+-- "No room, exactly", as a proposition: the ways in which a room rule is broken. The skip set after the first k symbols is
+-- judged for each k from 1 on.
+abbrev pub skippedBy : Book → List Held → Event → (p k : ℕ) → List Disjunct
+skippedBy b held e p k = skipThrough (take k (map (λ s. constraintOf s e) (b .symbols))) (labelOf held p)
+
+pub data Broken (b : Book) (held : List Held) (e : Event) : Type 0 where
+  stepSetOver : (q : ℕ) → List·Memᴰ q (positions b) → 128 < length (stepSet b held e q) → Broken b held e
+  skipSetOver : (p k : ℕ) → List·Memᴰ p (positions b) → 1 ≤ k → k ≤ length (b .symbols) → 128 < length (skippedBy b held e p k) → Broken b held e
+  seventhExclusion : (p k : ℕ) → List·Memᴰ p (positions b) → 1 ≤ k → k ≤ length (b .symbols)
+      → (D : Disjunct) → List·Memᴰ D (skippedBy b held e p k) → (x : Entry) → List·Memᴰ x D → 7 ≤ length (exclusions x) → Broken b held e
+  allOver : 128 < length (newHeld b held e) → Broken b held e

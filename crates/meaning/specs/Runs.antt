@@ -10,8 +10,9 @@ use Rattle.laws.specs.Order.{ascending}
 use Rattle.meaning.specs.Events.{Event, Valuation, wellFormed, isValuation, concerns}
 use Rattle.meaning.specs.Meaning.{Tracematch, noEvent, Row}
 use Rattle.meaning.specs.Book.{Book, bookOf}
-use Rattle.meaning.specs.Labels.{Held, newHeld}
+use Rattle.meaning.specs.Labels.{Held, State, fresh, next, newHeld}
 use Rattle.meaning.specs.Room.{room}
+use Rattle.meaning.specs.Sound.{eventLimit}
 use Rattle.meaning.specs.Rows.{rows, compareValuations}
 
 -- one call of a run: an event, and whether it was accepted. A refusal may have any reason, lack of room among them.
@@ -25,35 +26,40 @@ traceOf (event e true ∷ cs) = e ∷ traceOf cs
 traceOf (event e false ∷ cs) = traceOf cs
 
 -- "Each call gets the state that the call before it returned or left (after a refusal, the same one)."
-module _ {S R : Type 0} (step : S → Event → S) (give : S → Event → R) where
+module _ {S : Type 0} (step : S → Event → S) where
   -- the state after the calls
   abbrev pub run : S → List Call → S
   run s [] = s
   run s (event e true ∷ cs) = run (step s e) cs
   run s (event e false ∷ cs) = run s cs
 
+module _ {S R : Type 0} (step : S → Event → S) (give : S → Event → R) where
   -- what each accepted event gave, in order
   abbrev pub given : S → List Call → List R
   given s [] = []
   given s (event e true ∷ cs) = give s e ∷ given (step s e) cs
   given s (event e false ∷ cs) = given s cs
 
--- what is held after a run from the fresh state, and the row lists of its accepted events in order
+-- the state after a run "from the fresh state", what it holds, and the row lists of its accepted events in order
+abbrev pub stateAfter : Tracematch → List Call → State
+stateAfter tm cs = run (next (bookOf tm)) fresh cs
+
 abbrev pub heldAfter : Tracematch → List Call → List Held
-heldAfter tm cs = run (newHeld (bookOf tm)) (rows (bookOf tm)) [] cs
+heldAfter tm cs = run (newHeld (bookOf tm)) (fresh .held) cs
 
 abbrev pub rowLists : Tracematch → List Call → List (List Valuation)
-rowLists tm cs = given (newHeld (bookOf tm)) (rows (bookOf tm)) [] cs
+rowLists tm cs = given (newHeld (bookOf tm)) (rows (bookOf tm)) (fresh .held) cs
 
--- a run that accepts only well-formed events for which there is room, as every run of the watch does
-pub data OrderlyFrom (b : Book) : List Held → List Call → Type 0 where
-  finished : {held : List Held} → OrderlyFrom b held []
-  accepts : {held : List Held} {e : Event} {cs : List Call} → wellFormed e ≡ true → room b held e ≡ true
-      → OrderlyFrom b (newHeld b held e) cs → OrderlyFrom b held (event e true ∷ cs)
-  refuses : {held : List Held} {e : Event} {cs : List Call} → OrderlyFrom b held cs → OrderlyFrom b held (event e false ∷ cs)
+-- a run that accepts only well-formed events, below the limit of their number, for which there is room: every run of the
+-- watch is one, since answers 10, 11 and 12 refuse the others
+pub data OrderlyFrom (b : Book) : State → List Call → Type 0 where
+  finished : {s : State} → OrderlyFrom b s []
+  accepts : {s : State} {e : Event} {cs : List Call} → wellFormed e ≡ true → s .number < eventLimit → room b (s .held) e ≡ true
+      → OrderlyFrom b (next b s e) cs → OrderlyFrom b s (event e true ∷ cs)
+  refuses : {s : State} {e : Event} {cs : List Call} → OrderlyFrom b s cs → OrderlyFrom b s (event e false ∷ cs)
 
 abbrev pub Orderly : Book → List Call → Type 0
-Orderly b cs = OrderlyFrom b [] cs
+Orderly b cs = OrderlyFrom b fresh cs
 
 -- Demand 2: l is, "once each and in order, the valuations" that are a row after event number n of the trace t
 pub record Listed (tm : Tracematch) (t : List Event) (n : ℕ) (l : List Valuation) : Type 0 where
@@ -78,6 +84,6 @@ pub record Dependent (tm : Tracematch) (e f : Event) : Type 0 where
   pub first : concerns (tm .symbols) e common ≡ true
   pub second : concerns (tm .symbols) f common ≡ true
 
--- "dependent ones in the same order"
+-- demand 3: "dependent ones in the same order"
 pub record Ordered (tm : Tracematch) (t u : List Event) (pairs : Pairing t u) : Type 0 where
   pub keeps : (i j : ℕ) → i < j → j < length t → Dependent tm (getD t i noEvent) (getD t j noEvent) → pairs .to i < pairs .to j

@@ -9,7 +9,7 @@ use Rattle.laws.specs.Lists.{all}
 use Rattle.laws.specs.Order.{ascending}
 use Rattle.meaning.specs.Events.{word32}
 use Rattle.meaning.specs.Book.{Book}
-use Rattle.meaning.specs.Labels.{Entry, bound, free, Disjunct, Held, compareHeld}
+use Rattle.meaning.specs.Labels.{Entry, bound, free, Disjunct, Held, State, compareHeld}
 use Rattle.meaning.specs.Room.{exclusionLimit, heldLimit}
 
 abbrev pub soundEntry : Entry → Bool
@@ -26,3 +26,10 @@ soundPiece b h =
 
 unfoldable pub soundHeld : Book → List Held → Bool
 soundHeld b held = leb (length held) heldLimit && all (soundPiece b) held && ascending compareHeld held
+
+-- "1,000,000 events already accepted"
+abbrev pub eventLimit : ℕ
+eventLimit = 1000000
+
+unfoldable pub soundState : Book → State → Bool
+soundState b s = leb (s .number) eventLimit && soundHeld b (s .held)

@@ -1,15 +1,16 @@
 -- The starred roasts of document 01 that are event runs: for each a tracematch, the events sent, and what the watch
--- answers to each. Books are written as patterns. The theorem about the whole table is in ../proofs/Starred.antt.
+-- answers to each. Books are written as tracematches. The theorem about the whole table is in ../proofs/Starred.antt.
 use mathlib.Core.Bool.{Bool, true, false, cond}
 use mathlib.Core.List.{List, [], _∷_}
 use Prim.Native.Nat.{ℕ}
-use Rattle.pattern.specs.Regex.{Regex, lit, cat, star, plus}
+use Rattle.pattern.specs.Regex.{Regex, lit, cat, star, plus, opt}
 use Rattle.meaning.specs.Events.{Place, ignored, names, Symbol, Event, Valuation}
 use Rattle.meaning.specs.Meaning.{Tracematch}
 use Rattle.meaning.specs.Book.{Book, bookOf}
-use Rattle.meaning.specs.Labels.{Held, newHeld}
+use Rattle.meaning.specs.Labels.{Held, heldAt, Entry, bound, free, newHeld}
 use Rattle.meaning.specs.Room.{room}
 use Rattle.meaning.specs.Rows.{rows}
+use Rattle.meaning.specs.Runs.{Call}
 
 -- the answer to an event: 0 with its rows, or 12
 pub data Answer : Type 0 where
@@ -120,3 +121,54 @@ table =
       expected = none ∷ none ∷ none ∷ none ∷ none ∷ none ∷ none ∷ noRoom ∷ none ∷ noRoom ∷ [];
     }
     ∷ []
+
+-- the calls of such a list of events, an event accepted where there is room
+abbrev pub callsOf : Book → List Held → List Event → List Call
+callsOf b held [] = []
+callsOf b held (e ∷ es) =
+    let more = callsOf b (newHeld b held e) es in
+    let same = callsOf b held es in
+    cond (room b held e) (Call.event e true ∷ more) (Call.event e false ∷ same)
+
+-- the row lists among the answers
+abbrev pub rowsOf : List Answer → List (List Valuation)
+rowsOf [] = []
+rowsOf (accepted l ∷ rest) = l ∷ rowsOf rest
+rowsOf (noRoom ∷ rest) = rowsOf rest
+
+-- a case in which room is judged on the way: the seventh exclusion of d is 12, though `c` (any argument) would end it
+unfoldable pub onTheWay : Case
+onTheWay =
+    record {
+      tracematch = record {
+        variables = 1;
+        symbols = symbol 1 [] ∷ symbol 3 (d ∷ []) ∷ symbol 2 (d ∷ []) ∷ symbol 2 (ignored ∷ []) ∷ [];
+        pattern = cat (lit 0) (lit 2);
+      };
+      events =
+          event 1 [] ∷ event 3 (1 ∷ []) ∷ event 3 (2 ∷ []) ∷ event 3 (3 ∷ []) ∷ event 3 (4 ∷ []) ∷ event 3 (5 ∷ [])
+          ∷ event 3 (6 ∷ []) ∷ event 2 (7 ∷ []) ∷ [];
+      expected = none ∷ none ∷ none ∷ none ∷ none ∷ none ∷ none ∷ noRoom ∷ [];
+    }
+
+-- what is held after a(), b(1,7), b(1,8) of `vars d s`, a 1, b 2 d s, `match a b`: "not (d=1 and s=7)" is two disjuncts, and
+-- they stand "by values …, then by exclusion lists, a list before any that it begins"
+abbrev pub partial : Tracematch
+partial = record { variables = 2; symbols = symbol 1 [] ∷ symbol 2 (d ∷ s ∷ []) ∷ []; pattern = cat (lit 0) (lit 1) }
+
+abbrev pub partialCalls : List Call
+partialCalls = Call.event (event 1 []) true ∷ Call.event (event 2 (1 ∷ 7 ∷ [])) true ∷ Call.event (event 2 (1 ∷ 8 ∷ [])) true ∷ []
+
+abbrev pub partialHeld : List Held
+partialHeld =
+    heldAt 1 (free [] ∷ free (7 ∷ 8 ∷ []) ∷ []) ∷ heldAt 1 (free (1 ∷ []) ∷ free [] ∷ []) ∷ heldAt 1 (free (1 ∷ []) ∷ free (7 ∷ []) ∷ []) ∷ []
+
+-- what is held after b(7), a() of `vars d`, a 1, b 2 d, `match b? a b`: "a free variable before any value"
+abbrev pub mixed : Tracematch
+mixed = record { variables = 1; symbols = symbol 1 [] ∷ symbol 2 (d ∷ []) ∷ []; pattern = cat (opt (lit 1)) (cat (lit 0) (lit 1)) }
+
+abbrev pub mixedCalls : List Call
+mixedCalls = Call.event (event 2 (7 ∷ [])) true ∷ Call.event (event 1 []) true ∷ []
+
+abbrev pub mixedHeld : List Held
+mixedHeld = heldAt 2 (free [] ∷ []) ∷ heldAt 2 (bound 7 ∷ []) ∷ []

@@ -115,10 +115,10 @@ symbolAt-list (star r) k p h = symbolAt-list r k p (omega arith)
 symbolAt-list (plus r) k p h = symbolAt-list r k p (omega arith)
 symbolAt-list (opt r) k p h = symbolAt-list r k p (omega arith)
 
--- a set of positions 1 to n has no bit 0
-count : (n m : ℕ) → ((p : ℕ) → Has p m → (1 ≤ p) × (p < 1 + n)) → ones m ≡ length (keep (λ p. bit p m) (numbers 1 n))
+-- the ones of a set of positions 1 to n, which has no bit 0, are its positions
+pub count-ones : (n m : ℕ) → ((p : ℕ) → Has p m → (1 ≤ p) × (p < 1 + n)) → ones m ≡ length (keep (λ p. bit p m) (numbers 1 n))
 unfolding setBits
-count n m h = ones-setBits (suc n) m (below-of-bits (suc n) m (λ p b. omega (arith, h p b))) ∙ rw (go (bit 0 m) refl)
+count-ones n m h = ones-setBits (suc n) m (below-of-bits (suc n) m (λ p b. omega (arith, h p b))) ∙ rw (go (bit 0 m) refl)
   where
     go : (b : Bool) → bit 0 m ≡ b → bit 0 m ≡ false
     go true e = absurd (omega (arith, h 0 e))
@@ -126,7 +126,7 @@ count n m h = ones-setBits (suc n) m (below-of-bits (suc n) m (λ p b. omega (ar
 
 -- "counts of ones of the 32-bit position masks, equal to the number of such positions"
 pub count-beginning : (r : Regex) → ones (beginning r 1) ≡ length (keep (λ p. bit p (beginning r 1)) (numbers 1 (size r)))
-count-beginning r = count (size r) (beginning r 1) (λ p b. omega (arith, beginning-among r 1 p b))
+count-beginning r = count-ones (size r) (beginning r 1) (λ p b. omega (arith, beginning-among r 1 p b))
 
 pub count-ending : (r : Regex) → ones (ending r 1) ≡ length (keep (λ p. bit p (ending r 1)) (numbers 1 (size r)))
-count-ending r = count (size r) (ending r 1) (λ p b. omega (arith, ending-among r 1 p b))
+count-ending r = count-ones (size r) (ending r 1) (λ p b. omega (arith, ending-among r 1 p b))
