@@ -76,23 +76,29 @@ none = accepted []
 abbrev row17 : Answer
 row17 = accepted ((1 ∷ 7 ∷ []) ∷ [])
 
-unfoldable pub table : List Case
-table =
-    -- "Events load(1,7), load(2,8), drop(1), clean(2), drop(2), drop(1) print, whole"
+-- "Events load(1,7), load(2,8), drop(1), clean(2), drop(2), drop(1) print, whole"
+unfoldable pub listing : Case
+listing =
     record {
       tracematch = b1 (cat (lit 0) (plus (lit 1)));
       events = load 1 7 ∷ load 2 8 ∷ drop 1 ∷ clean 2 ∷ drop 2 ∷ drop 1 ∷ [];
       expected = none ∷ none ∷ row17 ∷ none ∷ none ∷ row17 ∷ [];
     }
-    -- "B1, load(1,7), a kind-9 event, drop(1): row 1 7."
-    ∷ record {
+
+-- "B1, load(1,7), a kind-9 event, drop(1): row 1 7."
+unfoldable pub unknownKind : Case
+unknownKind =
+    record {
       tracematch = b1 (cat (lit 0) (plus (lit 1)));
       events = load 1 7 ∷ event 9 [] ∷ drop 1 ∷ [];
       expected = none ∷ none ∷ row17 ∷ [];
     }
-    -- "No variables, `sym a 1 _`, `sym b 1 _`, `match a b`: two kind-1 events of one argument give nothing, then the
-    -- empty valuation."
-    ∷ record {
+
+-- "No variables, `sym a 1 _`, `sym b 1 _`, `match a b`: two kind-1 events of one argument give nothing, then the empty
+-- valuation."
+unfoldable pub overlapping : Case
+overlapping =
+    record {
       tracematch = record {
         variables = 0;
         symbols = symbol 1 (ignored ∷ []) ∷ symbol 1 (ignored ∷ []) ∷ [];
@@ -101,26 +107,38 @@ table =
       events = event 1 (4 ∷ []) ∷ event 1 (5 ∷ []) ∷ [];
       expected = none ∷ accepted ([] ∷ []) ∷ [];
     }
-    -- "Pattern `load* load drop`, load(1,7) twice, drop(1): one row."
-    ∷ record {
+
+-- "Pattern `load* load drop`, load(1,7) twice, drop(1): one row."
+unfoldable pub oneRow : Case
+oneRow =
+    record {
       tracematch = b1 (cat (star (lit 0)) (cat (lit 0) (lit 1)));
       events = load 1 7 ∷ load 1 7 ∷ drop 1 ∷ [];
       expected = none ∷ none ∷ row17 ∷ [];
     }
-    -- "open(1), fill(1,7), seal(1,7), seal(1,8): only the last gives a row, 1 8."
-    ∷ record {
+
+-- "open(1), fill(1,7), seal(1,7), seal(1,8): only the last gives a row, 1 8."
+unfoldable pub excluded : Case
+excluded =
+    record {
       tracematch = b2;
       events = opened 1 ∷ fill 1 7 ∷ seal 1 7 ∷ seal 1 8 ∷ [];
       expected = none ∷ none ∷ none ∷ accepted ((1 ∷ 8 ∷ []) ∷ []) ∷ [];
     }
-    -- "B2, open(1), fill(1,1) to fill(1,6): 0. Then fill(1,7): 12; seal(1,6): 0, no row; seal(1,9): 12."
-    ∷ record {
+
+-- "B2, open(1), fill(1,1) to fill(1,6): 0. Then fill(1,7): 12; seal(1,6): 0, no row; seal(1,9): 12."
+unfoldable pub sixExcluded : Case
+sixExcluded =
+    record {
       tracematch = b2;
       events =
           opened 1 ∷ fill 1 1 ∷ fill 1 2 ∷ fill 1 3 ∷ fill 1 4 ∷ fill 1 5 ∷ fill 1 6 ∷ fill 1 7 ∷ seal 1 6 ∷ seal 1 9 ∷ [];
       expected = none ∷ none ∷ none ∷ none ∷ none ∷ none ∷ none ∷ noRoom ∷ none ∷ noRoom ∷ [];
     }
-    ∷ []
+
+unfoldable pub table : List Case
+unfolding listing unknownKind overlapping oneRow excluded sixExcluded
+table = listing ∷ unknownKind ∷ overlapping ∷ oneRow ∷ excluded ∷ sixExcluded ∷ []
 
 -- the calls of such a list of events, an event accepted where there is room
 abbrev pub callsOf : Book → List Held → List Event → List Call
