@@ -22,7 +22,7 @@ use Rattle.meaning.specs.Book.{Proper, isProper, binds, boundIn}
 bit-single : (v u : ℕ) → bit v (single u) ≡ eqb v u
 bit-single v u = dite (ℕ-discrete v u) (λ e. rw (e, bit-single-same, eq-eqb u u refl)) (λ n. bit-single-other u v n ∙ sym (ne-eqb v u n))
 
-bit-boundIn : (v : ℕ) (ps : List Place) → bit v (boundIn ps) ≡ any (binds v) ps
+pub bit-boundIn : (v : ℕ) (ps : List Place) → bit v (boundIn ps) ≡ any (binds v) ps
 bit-boundIn v [] = bit-zero v
 bit-boundIn v (ignored ∷ ps) = bit-boundIn v ps
 bit-boundIn v (names u ∷ ps) = bit-join v (single u) (boundIn ps) ∙ ap₂ _||_ (bit-single v u) (bit-boundIn v ps)
@@ -32,7 +32,7 @@ not-test : {P : Type 0} (b : Bool) → P ↔ (b ≡ true) → (not b ≡ true) �
 not-test true r = (λ e. absurd (false≢true e), λ n. absurd (n (r .1 refl)))
 not-test false r = (λ e p. false≢true (r .0 p), λ n. refl)
 
-all-below : (f : ℕ → Bool) (n : ℕ) → (all f (numbers 0 n) ≡ true) ↔ ((v : ℕ) → v < n → f v ≡ true)
+pub all-below : (f : ℕ → Bool) (n : ℕ) → (all f (numbers 0 n) ≡ true) ↔ ((v : ℕ) → v < n → f v ≡ true)
 all-below f n = (λ h v l. all-at f h (mem-numbers v 0 n .1 (omega arith)), λ h. all-of f (numbers 0 n) λ v m. h v (omega (arith, mem-numbers v 0 n .0 m)))
 
 pub proper-test : (tm : Tracematch) → (isProper tm ≡ true) ↔ Proper tm

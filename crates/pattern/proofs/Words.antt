@@ -47,7 +47,7 @@ module _ (vars : ℕ → ℕ) (v : ℕ) where
   bound (opt r) h w t = absurd (has-zero v h)
 
   -- where it has not, some word does not
-  free : (r : Regex) → bit v (boundBy vars r) ≡ false → (w : List ℕ) × In r w × (binds w ≡ false)
+  pub free : (r : Regex) → bit v (boundBy vars r) ≡ false → (w : List ℕ) × In r w × (binds w ≡ false)
   free (lit a) h = (a ∷ [], refl, rw h)
   free (cat r s) h =
       let e = or-false _ _ (rw bit-join at h) in

@@ -1,0 +1,5 @@
+-- What the functions of this crate share: an array filled from the front (Fills), the masks and symbols of a larger fragment
+-- from those of its parts (Laws), and the larger fragment as a piece (Wholes).
+pub mod Fills
+pub mod Laws
+pub mod Wholes

@@ -1,0 +1,188 @@
+// One fragment of a pattern: its masks, the symbols of its positions and the positions that follow each. Index i of an array is
+// position i + 1; what belongs to no position of the fragment is 0. For the reader of patterns.
+ghost use mathlib.Core.Path.{_≡_};
+ghost use mathlib.Core.List.{map};
+ghost use Prim.Native.Nat.{ℕ, _+_, _≤_};
+ghost use lib.ListN.{getD};
+ghost use Rattle.laws.specs.Bits.{bit, join};
+ghost use Rattle.laws.specs.Lists.{numbers};
+ghost use Rattle.pattern.specs.Regex.{Regex};
+ghost use Rattle.pattern.specs.Positions as Positions;
+ghost use Rattle.piece.specs.Pieces.{pieceOf, noPiece};
+
+pub struct Piece {
+    pub size: usize,
+    pub empty: bool,
+    pub begins: u32,
+    pub ends: u32,
+    // the variables that every word binds
+    pub bound: u32,
+    pub symbols: [u32; 31],
+    pub follows: [u32; 31],
+}
+
+pub fn nothing() -> Piece
+    ensures { λ r. ⌜ r ≡ noPiece ⌝ }
+{
+    Piece {
+        size: 0,
+        empty: false,
+        begins: 0,
+        ends: 0,
+        bound: 0,
+        symbols: [0u32; 31],
+        follows: [0u32; 31],
+    }
+}
+
+// The mask where the test passes, and the empty one where it fails.
+fn given(t: bool, m: u32) -> u32
+    ensures { λ r. ⌜ r ≡ Positions.given t m ⌝ }
+{
+    if t { m } else { 0 }
+}
+
+// Whether bit p of m is set.
+fn has(m: u32, p: usize) -> bool
+    requires { ⌜ p ≤ 31 ⌝ }
+    ensures { λ r. ⌜ r ≡ bit p m ⌝ }
+{
+    (m >> p) & 1 == 1
+}
+
+// Position by position, both sets joined.
+fn joined(a: [u32; 31], b: [u32; 31]) -> [u32; 31]
+    ensures { λ r. ⌜ r ≡ map (λ i. join (getD a i 0) (getD b i 0)) (numbers 0 31) ⌝ }
+{
+    let mut r = a;
+    let mut i: usize = 0;
+    while i < 31 {
+        r[i] = a[i] | b[i];
+        i += 1;
+    }
+    r
+}
+
+// Every position of `ends` followed by those of `begins` too.
+fn linked(follows: [u32; 31], ends: u32, begins: u32) -> [u32; 31]
+    ensures { λ r. ⌜ r ≡ map (λ i. join (getD follows i 0) (Positions.given (bit (i + 1) ends) begins)) (numbers 0 31) ⌝ }
+{
+    let mut r = follows;
+    let mut i: usize = 0;
+    while i < 31 {
+        let more = given(has(ends, i + 1), begins);
+        r[i] = follows[i] | more;
+        i += 1;
+    }
+    r
+}
+
+// The occurrence of symbol a, which binds `bound`, at position k.
+pub fn literal(k: usize, a: u32, bound: u32) -> Piece
+    requires { ⌜ (1 ≤ k) × (k ≤ 31) ⌝ }
+    ensures { λ r. ⌜ ((vars : ℕ → ℕ) → vars a ≡ bound → r ≡ pieceOf vars (Regex.lit a) k) ⌝ }
+{
+    let mut y = [0u32; 31];
+    let at = k - 1;
+    y[at] = a;
+    let m = 1u32 << k;
+    Piece {
+        size: 1,
+        empty: false,
+        begins: m,
+        ends: m,
+        bound: bound,
+        symbols: y,
+        follows: [0u32; 31],
+    }
+}
+
+// One fragment and the next behind it.
+pub fn sequence(x: Piece, y: Piece) -> Piece
+    requires { ⌜ (x .size ≤ 31) × (y .size ≤ 31) ⌝ }
+    ensures { λ r. ⌜ ((vars : ℕ → ℕ) (a b : Regex) (k : ℕ) → x ≡ pieceOf vars a k → y ≡ pieceOf vars b (k + Positions.size a) → r ≡ pieceOf vars (Regex.cat a b) k) ⌝ }
+{
+    let xf = x.follows;
+    let yf = y.follows;
+    let xs = x.symbols;
+    let ys = y.symbols;
+    let begins = given(x.empty, y.begins);
+    let ends = given(y.empty, x.ends);
+    let both = joined(xf, yf);
+    let follows = linked(both, x.ends, y.begins);
+    let symbols = joined(xs, ys);
+    Piece {
+        size: x.size + y.size,
+        empty: x.empty && y.empty,
+        begins: x.begins | begins,
+        ends: ends | y.ends,
+        bound: x.bound | y.bound,
+        symbols: symbols,
+        follows: follows,
+    }
+}
+
+// One fragment or the other.
+pub fn either(x: Piece, y: Piece) -> Piece
+    requires { ⌜ (x .size ≤ 31) × (y .size ≤ 31) ⌝ }
+    ensures { λ r. ⌜ ((vars : ℕ → ℕ) (a b : Regex) (k : ℕ) → x ≡ pieceOf vars a k → y ≡ pieceOf vars b (k + Positions.size a) → r ≡ pieceOf vars (Regex.alt a b) k) ⌝ }
+{
+    let xf = x.follows;
+    let yf = y.follows;
+    let xs = x.symbols;
+    let ys = y.symbols;
+    let follows = joined(xf, yf);
+    let symbols = joined(xs, ys);
+    Piece {
+        size: x.size + y.size,
+        empty: x.empty || y.empty,
+        begins: x.begins | y.begins,
+        ends: x.ends | y.ends,
+        bound: x.bound & y.bound,
+        symbols: symbols,
+        follows: follows,
+    }
+}
+
+pub fn star(x: Piece) -> Piece
+    ensures { λ r. ⌜ ((vars : ℕ → ℕ) (a : Regex) (k : ℕ) → x ≡ pieceOf vars a k → r ≡ pieceOf vars (Regex.star a) k) ⌝ }
+{
+    let y = x.symbols;
+    let f = x.follows;
+    let looped = linked(f, x.ends, x.begins);
+    Piece {
+        size: x.size,
+        empty: true,
+        begins: x.begins,
+        ends: x.ends,
+        bound: 0,
+        symbols: y,
+        follows: looped,
+    }
+}
+
+pub fn plus(x: Piece) -> Piece
+    ensures { λ r. ⌜ ((vars : ℕ → ℕ) (a : Regex) (k : ℕ) → x ≡ pieceOf vars a k → r ≡ pieceOf vars (Regex.plus a) k) ⌝ }
+{
+    let y = x.symbols;
+    let f = x.follows;
+    let more = linked(f, x.ends, x.begins);
+    Piece {
+        size: x.size,
+        empty: x.empty,
+        begins: x.begins,
+        ends: x.ends,
+        bound: x.bound,
+        symbols: y,
+        follows: more,
+    }
+}
+
+pub fn optional(x: Piece) -> Piece
+    ensures { λ r. ⌜ ((vars : ℕ → ℕ) (a : Regex) (k : ℕ) → x ≡ pieceOf vars a k → r ≡ pieceOf vars (Regex.opt a) k) ⌝ }
+{
+    let mut r = x;
+    r.empty = true;
+    r.bound = 0;
+    r
+}
