@@ -1,0 +1,2 @@
+-- The theorem about the starred roasts.
+pub mod Starred

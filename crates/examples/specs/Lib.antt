@@ -1,0 +1,2 @@
+-- The starred roasts of document 01, with their texts.
+pub mod Starred

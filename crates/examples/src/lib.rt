@@ -1,0 +1,1 @@
+// Definitions and one theorem: see specs/ and proofs/.

@@ -1,0 +1,147 @@
+-- The reader's course over the words of ARGS.
+use mathlib.Core.Path.{_≡_, refl, sym, ap, ap₂, _∙_}
+use mathlib.Core.Bool.{Bool, true, false, cond, _&&_, _||_, false≢true}
+use mathlib.Core.List.{List, [], _∷_, _++_, map, append-nil}
+use Prim.Native.Nat.{ℕ, zero, suc, _+_, _≤_}
+use native.Mathlib.Omega.{arith}
+use borrow.Author.Tests.{eq-eqb, ne-eqb, ltb-true}
+use lib.Dec.{eqb}
+use lib.ListN.{length, getD, drop, length-append}
+use lib.Seq.{append-snoc}
+use Rattle.laws.specs.Lists.{all}
+use Rattle.laws.proofs.Lists.{and-true-split, all-at, mem-getD}
+use Rattle.meaning.specs.Events.{Place, ignored, names}
+use Rattle.meaning.specs.Book.{soundPlace}
+use Rattle.form.specs.Text.{Bytes, space, lf, isName, ignoredWord, Span, spaced, placeWord}
+use Rattle.form.specs.Form.{sameWord, distinct}
+use Rattle.form.specs.Scan.{go, wordEnd, nextWord}
+use Rattle.form.specs.Lines.{bytesAt, Arguments, argumentFault, argumentOf, argumentsFrom}
+use Rattle.form.proofs.Scans.{same-word}
+use Rattle.form.proofs.Words.{Word, word-end, word-part, isWord, Next, word-next, next-behind, next-inside, byte-inside, gap-ended}
+use Rattle.form.proofs.Words.{Gap, ended, next, failed, gap}
+use Rattle.form.proofs.Names.{indexIn, known, index-of, index-known, getD-index, index-getD, known-getD, name-word, argument-tested}
+use Rattle.form.proofs.VarsLine.{Outcome, fine, faulty, outcome-on, spaced-stops, spaced-first}
+
+-- whether a word may stand among ARGS, and what it stands for
+abbrev pub isArgument : List Bytes → Bytes → Bool
+isArgument vs w = sameWord w ignoredWord || (isName w && known vs w)
+
+abbrev pub placeOf : List Bytes → Bytes → Place
+placeOf vs w = let v = names (indexIn vs w) in cond (sameWord w ignoredWord) ignored v
+
+argument-of : {s : Bytes} {p : ℕ} {w rest : Bytes} → Word s p w rest → (xs : List Span) → argumentOf s xs p (wordEnd s p) ≡ placeOf (map (bytesAt s) xs) w
+argument-of {w} h xs = rw (word-part h) (ap (λ i. cond (sameWord w ignoredWord) ignored (names i)) (index-of _ xs w))
+
+-- a word of ARGS is that of its place
+place-found : (vs : List Bytes) (w : Bytes) → isArgument vs w ≡ true → (placeWord vs (placeOf vs w) ≡ w) × (soundPlace (length vs) (placeOf vs w) ≡ true)
+place-found vs w = by (sameWord w ignoredWord) refl
+  where
+    by : (t : Bool) → sameWord w ignoredWord ≡ t → (t || (isName w && known vs w)) ≡ true
+        → (placeWord vs (cond t ignored (names (indexIn vs w))) ≡ w) × (soundPlace (length vs) (cond t ignored (names (indexIn vs w))) ≡ true)
+    by true e h = (sym (same-word w ignoredWord .0 e), refl)
+    by false e h = let k = and-true-split (isName w) (known vs w) h .1 in (getD-index vs w k, index-known vs w ∙ k)
+
+-- a place's word is read back
+module _ (vs : List Bytes) (named : all isName vs ≡ true) (d : distinct vs ≡ true) where
+  name-not-ignored : (w : Bytes) → isName w ≡ true → sameWord w ignoredWord ≡ false
+  name-not-ignored w h = by (sameWord w ignoredWord) refl
+    where
+      by : (t : Bool) → sameWord w ignoredWord ≡ t → t ≡ false
+      by true e = absurd (false≢true (ap isName (sym (same-word w ignoredWord .0 e)) ∙ h))
+      by false e = refl
+
+  place-read : (a : Place) → soundPlace (length vs) a ≡ true
+      → (isArgument vs (placeWord vs a) ≡ true) × (placeOf vs (placeWord vs a) ≡ a) × (isWord (placeWord vs a) ≡ true)
+  place-read ignored h = (refl, refl, refl)
+  place-read (names v) h =
+      let l = ltb-true v (length vs) h in
+      let n : isName (getD vs v []) ≡ true = all-at isName named (mem-getD vs v [] l) in
+      let i = name-not-ignored (getD vs v []) n in
+      (rw (i, n) (known-getD vs v l), rw i (ap names (index-getD vs v d l)), name-word (getD vs v []) n)
+
+-- words of ARGS are written from p on, up to the line's end, with room for so many
+pub record ArgumentsRead (s : Bytes) (vs : List Bytes) (room p : ℕ) : Type 0 where
+  pub places : List Place
+  pub rest : Bytes
+  pub text : drop p s ≡ spaced (map (placeWord vs) places) ++ (lf ∷ rest)
+  pub sound : all (soundPlace (length vs)) places ≡ true
+  pub few : length places ≤ room
+
+-- the course over words of ARGS comes to that or to a fault
+abbrev pub ArgumentsCourse : Bytes → List Span → List Bytes → ℕ → Type 0
+ArgumentsCourse s xs vs room = (ps : List Place) (p : ℕ) → p ≤ length s → Outcome s (argumentsFrom s xs room ps p .step) (ArgumentsRead s vs room p)
+
+-- what it gives
+made : ℕ → List Place → Arguments
+made q ps = record { step = go q; places = ps }
+
+module _ (s : Bytes) (xs : List Span) (vs : List Bytes) (g : map (bytesAt s) xs ≡ vs) where
+  -- past a word of ARGS
+  arguments-next : (room : ℕ) (ps : List Place) (p : ℕ) (w rest : Bytes) → Next s p w rest → isArgument vs w ≡ true
+      → argumentsFrom s xs (suc room) ps p ≡ argumentsFrom s xs room (ps ++ (placeOf vs w ∷ [])) (p + 1 + length w)
+  arguments-next room ps p w rest n k =
+      let t : isArgument (map (bytesAt s) xs) w ≡ true = rw g k in
+      rw (n .goes, argument-tested (n .word) (n .some) xs, t, ne-eqb (p + 1) p (λ i. omega arith), argument-of (n .word) xs, word-end (n .word), g)
+
+  arguments-ended : (room : ℕ) (ps : List Place) (p : ℕ) → nextWord s p ≡ go p → argumentsFrom s xs room ps p ≡ record { step = go (p + 1); places = ps }
+  arguments-ended zero ps p e = rw (e, eq-eqb p p refl)
+  arguments-ended (suc room) ps p e = rw (e, eq-eqb p p refl)
+
+  -- words of ARGS that are written are read
+  pub arguments-read : all isName vs ≡ true → distinct vs ≡ true → (room : ℕ) (ps : List Place) (p : ℕ) (cs : List Place) (rest : Bytes)
+      → drop p s ≡ spaced (map (placeWord vs) cs) ++ (lf ∷ rest) → all (soundPlace (length vs)) cs ≡ true → length cs ≤ room
+      → argumentsFrom s xs room ps p ≡ record { step = go (p + length (spaced (map (placeWord vs) cs)) + 1); places = ps ++ cs }
+  unfolding made
+  arguments-read n d room ps p [] rest e h l = arguments-ended room ps p (gap-ended s p rest e) ∙ ap₂ made (omega arith) (sym (append-nil ps))
+  arguments-read n d zero ps p (a ∷ cs) rest e h l = absurd (omega arith)
+  arguments-read n d (suc room) ps p (a ∷ cs) rest e h l =
+      let m = and-true-split (soundPlace (length vs) a) (all (soundPlace (length vs)) cs) h in
+      let (k, i, j) = place-read vs n d a (m .0) in
+      let w = placeWord vs a in
+      let ws = map (placeWord vs) cs in
+      let x = word-next s p w (spaced ws ++ (lf ∷ rest)) (e ∙ spaced-first w ws (lf ∷ rest)) j (spaced-stops ws rest) in
+      arguments-next room ps p w (spaced ws ++ (lf ∷ rest)) x k ∙ ap (λ b. argumentsFrom s xs room (ps ++ (b ∷ [])) (p + 1 + length w)) i
+      ∙ arguments-read n d room (ps ++ (a ∷ [])) (p + 1 + length w) cs rest (next-behind x) (m .1) (omega arith)
+      ∙ ap₂ made (omega (arith, length-append w (spaced ws))) (append-snoc ps a cs)
+
+  no-arguments : (room p : ℕ) (rest : Bytes) → drop p s ≡ lf ∷ rest → ArgumentsRead s vs room p
+  no-arguments room p rest t = record { places = []; rest = rest; text = t; sound = refl; few = omega arith }
+
+  arguments-stop : (room : ℕ) (ps : List Place) (p : ℕ) (w rest : Bytes) → Next s p w rest → isArgument vs w ≡ false
+      → Outcome s (argumentsFrom s xs (suc room) ps p .step) (ArgumentsRead s vs (suc room) p)
+  arguments-stop room ps p w rest n k =
+      let t : eqb (argumentFault s xs (p + 1) (wordEnd s (p + 1))) 0 ≡ false = argument-tested (n .word) (n .some) xs ∙ rw g k in
+      let e : eqb (p + 1) p ≡ false = ne-eqb (p + 1) p (λ i. omega arith) in
+      faulty (rw (n .goes, t, e) t) (rw (n .goes, t, e) (byte-inside s p space (w ++ rest) (n .text)))
+
+  pub arguments-course : (room : ℕ) → ArgumentsCourse s xs vs room
+  arguments-course zero ps p l = by (gap s p)
+    where
+      by : Gap s p → Outcome s (argumentsFrom s xs 0 ps p .step) (ArgumentsRead s vs 0 p)
+      by (ended e rest t) = fine (no-arguments 0 p rest t)
+      by (next w rest n) =
+          let e : eqb (p + 1) p ≡ false = ne-eqb (p + 1) p (λ i. omega arith) in
+          faulty (rw (n .goes, e)) (rw (n .goes, e) (byte-inside s p space (w ++ rest) (n .text)))
+      by (failed n e f i) = faulty (rw (e, f)) (rw (e, f) (i l))
+  arguments-course (suc room) ps p l = by (arguments-course room) (gap s p)
+    where
+      by : ArgumentsCourse s xs vs room → Gap s p → Outcome s (argumentsFrom s xs (suc room) ps p .step) (ArgumentsRead s vs (suc room) p)
+      by ih (ended e rest t) = fine (no-arguments (suc room) p rest t)
+      by ih (next w rest n) = declared (isArgument vs w) refl
+        where
+          declared : (t : Bool) → isArgument vs w ≡ t → Outcome s (argumentsFrom s xs (suc room) ps p .step) (ArgumentsRead s vs (suc room) p)
+          declared true k =
+              let a = placeOf vs w in
+              let (i, j) = place-found vs w k in
+              outcome-on (ap (λ r. r .step) (arguments-next room ps p w rest n k))
+              (λ r. record {
+                places = a ∷ r .places;
+                rest = r .rest;
+                text = n .text ∙ ap₂ (λ v t. space ∷ (v ++ t)) (sym i) (sym (next-behind n) ∙ r .text)
+                    ∙ sym (spaced-first (placeWord vs a) (map (placeWord vs) (r .places)) (lf ∷ r .rest));
+                sound = ap₂ _&&_ j (r .sound);
+                few = omega arith;
+              })
+              (ih (ps ++ (a ∷ [])) (p + 1 + length w) (next-inside n))
+          declared false k = arguments-stop room ps p w rest n k
+      by ih (failed n e f i) = faulty (rw (e, f)) (rw (e, f) (i l))

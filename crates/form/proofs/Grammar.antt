@@ -1,0 +1,103 @@
+-- Tokens of bytes, and phrases over tokens: how many tokens there are, where an LF stands among them, and what a phrase begins with.
+use mathlib.Core.Path.{_≡_, refl, sym, ap, _∙_}
+use mathlib.Core.Bool.{Bool, true, false, cond, _||_, true≢false, false≢true}
+use mathlib.Core.List.{List, [], _∷_, _++_, append-assoc}
+use Prim.Native.Nat.{ℕ, suc, _+_, _≤_}
+use native.Mathlib.Omega.{arith}
+use lib.Dec.{eqb}
+use lib.ListN.{length}
+use borrow.Author.Tests.{eqb-true, ne-eqb}
+use Rattle.laws.specs.Lists.{any}
+use Rattle.laws.proofs.Lists.{any-append}
+use Rattle.pattern.specs.Regex.{Regex}
+use Rattle.form.specs.Text.{Bytes, space, lf, isLower, isDigit, isNameByte}
+use Rattle.form.specs.Tokens.{Token, name, sign, ended, tokensAfter, tokens}
+use Rattle.form.specs.Phrase
+use Rattle.form.specs.Phrase.{Phrase, Level}
+use Rattle.form.specs.Parse.{beginsItem}
+use Rattle.form.proofs.TokenScan.{by-test, nextIs, apart}
+
+-- whether the token is an LF
+abbrev pub isLf : Token → Bool
+isLf (name w) = false
+isLf (sign b) = eqb lf b
+
+cond-append : (t : Bool) (x′ y′ z : List Token) {x y : List Token} → x ≡ x′ ++ z → y ≡ y′ ++ z → cond t x y ≡ cond t x′ y′ ++ z
+cond-append true x′ y′ z e f = e
+cond-append false x′ y′ z e f = f
+
+-- an LF ends a name, and is a token
+pub tokens-lf : (w l : Bytes) → tokensAfter w (l ++ (lf ∷ [])) ≡ tokensAfter w l ++ (sign lf ∷ [])
+tokens-lf [] [] = refl
+tokens-lf (c ∷ v) [] = refl
+tokens-lf [] (b ∷ l) =
+    let h = tokens-lf [] l in
+    cond-append (isLower b) _ _ _ (tokens-lf (b ∷ []) l) (cond-append (eqb b space) _ _ _ h (ap (λ ts. sign b ∷ ts) h))
+tokens-lf (c ∷ v) (b ∷ l) =
+    let h = tokens-lf [] l in
+    cond-append (isNameByte b) _ _ _ (tokens-lf (c ∷ v ++ (b ∷ [])) l)
+    (ap (λ ts. name (c ∷ v) ∷ ts) (cond-append (eqb b space) _ _ _ h (ap (λ ts. sign b ∷ ts) h)))
+
+-- no LF among bytes of names and spaces
+not-lf : (b : ℕ) → isNameByte b ≡ true → eqb lf b ≡ false
+not-lf b e = ne-eqb lf b (λ f. true≢false (sym e ∙ ap isNameByte (sym f)))
+
+apart-lines : (b : ℕ) (l : Bytes) → any isLf (tokens l) ≡ any (eqb lf) l → any isLf (apart b l) ≡ any (eqb lf) (b ∷ l)
+apart-lines b l h = by-test (λ ts. any isLf ts ≡ any (eqb lf) (b ∷ l)) (eqb b space) (λ e. rw (eqb-true b space e, h)) (λ _. rw h)
+
+-- an LF among the tokens is one among the bytes
+pub tokens-lines : (w l : Bytes) → any isLf (tokensAfter w l) ≡ any (eqb lf) l
+tokens-lines [] [] = refl
+tokens-lines (c ∷ v) [] = refl
+tokens-lines [] (b ∷ l) = by-test (λ ts. any isLf ts ≡ any (eqb lf) (b ∷ l)) (isLower b)
+    (λ e. tokens-lines (b ∷ []) l ∙ rw (not-lf b (ap (λ t. t || isDigit b) e))) (λ _. apart-lines b l (tokens-lines [] l))
+tokens-lines (c ∷ v) (b ∷ l) = by-test (λ ts. any isLf ts ≡ any (eqb lf) (b ∷ l)) (isNameByte b)
+    (λ e. tokens-lines (c ∷ v ++ (b ∷ [])) l ∙ rw (not-lf b e)) (λ _. apart-lines b l (tokens-lines [] l))
+
+-- at most as many tokens as bytes, and one for a name begun before
+apart-length : (b : ℕ) (l : Bytes) → length (tokens l) ≤ length l → length (apart b l) ≤ suc (length l)
+apart-length b l h = by-test (λ ts. length ts ≤ suc (length l)) (eqb b space) (λ _. omega arith) (λ _. omega arith)
+
+pub tokens-length : (w l : Bytes) → length (tokensAfter w l) ≤ length (ended w []) + length l
+tokens-length [] [] = omega arith
+tokens-length (c ∷ v) [] = omega arith
+tokens-length [] (b ∷ l) = by-test (λ ts. length ts ≤ 0 + suc (length l)) (isLower b) (λ _. omega (arith, tokens-length (b ∷ []) l))
+    (λ _. omega (arith, apart-length b l (omega (arith, tokens-length [] l))))
+tokens-length (c ∷ v) (b ∷ l) = by-test (λ ts. length ts ≤ 1 + suc (length l)) (isNameByte b)
+    (λ _. omega (arith, tokens-length (c ∷ v ++ (b ∷ [])) l))
+    (λ _. omega (arith, apart-length b l (omega (arith, tokens-length [] l))))
+
+module _ {symbols : List Bytes} where
+  -- a phrase begins with a name or `(`
+  pub phrase-begins : {l : Level} {d : ℕ} {ts : List Token} {r : Regex} → Phrase symbols l d ts r → (us : List Token)
+      → nextIs true beginsItem (ts ++ us) ≡ true
+  phrase-begins (Phrase.symbol h) us = refl
+  phrase-begins (Phrase.group x) us = refl
+  phrase-begins (Phrase.plain x) us = phrase-begins x us
+  phrase-begins (Phrase.starred x) us = rw append-assoc (phrase-begins x _)
+  phrase-begins (Phrase.plussed x) us = rw append-assoc (phrase-begins x _)
+  phrase-begins (Phrase.optional x) us = rw append-assoc (phrase-begins x _)
+  phrase-begins (Phrase.last x) us = phrase-begins x us
+  phrase-begins (Phrase.then x y) us = rw append-assoc (phrase-begins x _)
+  phrase-begins (Phrase.only x) us = phrase-begins x us
+  phrase-begins (Phrase.or x y) us = rw append-assoc (phrase-begins x _)
+
+  pub phrase-some : {l : Level} {d : ℕ} {ts : List Token} {r : Regex} → Phrase symbols l d ts r → 1 ≤ length ts
+  phrase-some {ts} x = go ts (phrase-begins x [])
+    where
+      go : (ts : List Token) → nextIs true beginsItem (ts ++ []) ≡ true → 1 ≤ length ts
+      go [] h = absurd (false≢true h)
+      go (t ∷ ts) h = omega arith
+
+  -- it lies within a line
+  pub phrase-line : {l : Level} {d : ℕ} {ts : List Token} {r : Regex} → Phrase symbols l d ts r → any isLf ts ≡ false
+  phrase-line (Phrase.symbol h) = refl
+  phrase-line (Phrase.group {ts = ts} x) = rw (any-append isLf ts _, phrase-line x)
+  phrase-line (Phrase.plain x) = phrase-line x
+  phrase-line (Phrase.starred {ts = ts} x) = rw (any-append isLf ts _, phrase-line x)
+  phrase-line (Phrase.plussed {ts = ts} x) = rw (any-append isLf ts _, phrase-line x)
+  phrase-line (Phrase.optional {ts = ts} x) = rw (any-append isLf ts _, phrase-line x)
+  phrase-line (Phrase.last x) = phrase-line x
+  phrase-line (Phrase.then {ts = ts} x y) = rw (any-append isLf ts _, phrase-line x, phrase-line y)
+  phrase-line (Phrase.only x) = phrase-line x
+  phrase-line (Phrase.or {ts = ts} x y) = rw (any-append isLf ts _, phrase-line x, phrase-line y)

@@ -1,0 +1,10 @@
+-- Texts of books. The stated form: Text (a printer of declarations), Tokens and Phrase (the grammar of patterns), Form (a text
+-- of the stated form). The reader's course, which fixes numbers and places: Scan, Lines, Parse, Reading.
+pub mod Text
+pub mod Tokens
+pub mod Phrase
+pub mod Form
+pub mod Scan
+pub mod Lines
+pub mod Parse
+pub mod Reading

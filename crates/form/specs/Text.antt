@@ -1,0 +1,132 @@
+-- Declarations and the text that writes them: document 01, "The book". The pattern is written apart (Tokens, Phrase).
+use mathlib.Core.Bool.{Bool, true, false, cond, _&&_, _||_}
+use mathlib.Core.List.{List, [], _∷_, _++_, map}
+use Prim.Native.Nat.{ℕ, _+_, _/_, _%_}
+use lib.Dec.{eqb, leb, ltb}
+use lib.ListN.{length, getD}
+use Rattle.laws.specs.Lists.{all, gather}
+use Rattle.pattern.specs.Regex.{Regex}
+use Rattle.meaning.specs.Events.{Place, ignored, names, Symbol}
+use Rattle.meaning.specs.Meaning.{Tracematch}
+
+-- a text, a line, a word, a name: bytes
+abbrev pub Bytes : Type 0
+Bytes = List ℕ
+
+abbrev pub space : ℕ
+space = 32
+
+-- "Each line ends with LF (byte 10)."
+abbrev pub lf : ℕ
+lf = 10
+
+abbrev pub between : ℕ → ℕ → ℕ → Bool
+between low high b = leb low b && leb b high
+
+-- a to z
+abbrev pub isLower : ℕ → Bool
+isLower b = between 97 122 b
+
+-- 0 to 9
+abbrev pub isDigit : ℕ → Bool
+isDigit b = between 48 57 b
+
+abbrev pub isNameByte : ℕ → Bool
+isNameByte b = isLower b || isDigit b
+
+-- "A name is a to z, then a to z or 0 to 9, 1 to 12 bytes"
+abbrev pub isName : Bytes → Bool
+isName [] = false
+isName (b ∷ w) = isLower b && all isNameByte w && leb (length w) 11
+
+-- the words of the format
+abbrev pub varsWord : Bytes
+varsWord = 118 ∷ 97 ∷ 114 ∷ 115 ∷ []
+
+abbrev pub symWord : Bytes
+symWord = 115 ∷ 121 ∷ 109 ∷ []
+
+abbrev pub matchWord : Bytes
+matchWord = 109 ∷ 97 ∷ 116 ∷ 99 ∷ 104 ∷ []
+
+-- `_` ("that argument is ignored")
+abbrev pub ignoredWord : Bytes
+ignoredWord = 95 ∷ []
+
+-- the digit of a number below 10
+abbrev pub digit : ℕ → ℕ
+digit n = 48 + n
+
+-- a number below 1000 in decimal, without leading zeros
+unfoldable pub decimal : ℕ → Bytes
+decimal n =
+    cond (ltb n 10) (digit n ∷ [])
+    (cond (ltb n 100) (digit (n / 10) ∷ digit (n % 10) ∷ []) (digit (n / 100) ∷ digit (n / 10 % 10) ∷ digit (n % 10) ∷ []))
+
+-- one line `sym NAME KIND ARGS`
+pub record SymbolLine : Type 0 where
+  pub name : Bytes
+  pub kind : ℕ
+  pub places : List Place
+
+-- what the lines before the pattern declare
+pub record Declarations : Type 0 where
+  pub variables : List Bytes
+  pub symbols : List SymbolLine
+
+-- "Words are divided by one space, none at a line's end": each word behind a space
+abbrev pub spaced : List Bytes → Bytes
+spaced [] = []
+spaced (w ∷ ws) = space ∷ w ++ spaced ws
+
+-- an argument word: "each a declared variable or `_`"
+abbrev pub placeWord : List Bytes → Place → Bytes
+placeWord variables ignored = ignoredWord
+placeWord variables (names v) = getD variables v []
+
+-- "First line: `vars`, then 0 to 4 variable names."
+abbrev pub varsLine : List Bytes → Bytes
+varsLine variables = varsWord ++ (spaced variables ++ (lf ∷ []))
+
+-- "Then 1 to 16 lines `sym NAME KIND ARGS`."
+abbrev pub symLine : List Bytes → SymbolLine → Bytes
+symLine variables l = symWord ++ (spaced (l .name ∷ decimal (l .kind) ∷ map (placeWord variables) (l .places)) ++ (lf ∷ []))
+
+-- "Last line: `match`, a space, a pattern. Nothing follows it."
+abbrev pub matchLine : Bytes → Bytes
+matchLine p = matchWord ++ (space ∷ p ++ (lf ∷ []))
+
+-- the lines before the last
+unfoldable pub header : Declarations → Bytes
+header d = varsLine (d .variables) ++ gather (symLine (d .variables)) (d .symbols)
+
+unfoldable pub text : Declarations → Bytes → Bytes
+text d p = header d ++ matchLine p
+
+-- the tracematch that declarations and a pattern make
+abbrev pub symbolOf : SymbolLine → Symbol
+symbolOf l = record { kind = l .kind; places = l .places }
+
+abbrev pub tracematchOf : Declarations → Regex → Tracematch
+tracematchOf d r = record { variables = length (d .variables); symbols = map symbolOf (d .symbols); pattern = r }
+
+-- the part of a text where a name stands
+pub record Span : Type 0 where
+  pub start : ℕ
+  pub size : ℕ
+
+-- the declaring places of variables, when the first stands at p: one behind the other, a space between
+abbrev pub variableSpans : ℕ → List Bytes → List Span
+variableSpans p [] = []
+variableSpans p (w ∷ ws) = record { start = p; size = length w } ∷ variableSpans (p + length w + 1) ws
+
+-- the declaring places of symbols, when the first line begins at p: behind `sym` and a space
+abbrev pub symbolSpans : ℕ → List Bytes → List SymbolLine → List Span
+symbolSpans p variables [] = []
+symbolSpans p variables (l ∷ ls) =
+    record { start = p + 4; size = length (l .name) } ∷ symbolSpans (p + length (symLine variables l)) variables ls
+
+-- the declaring places of all names: variables from 0, then symbols
+abbrev pub spans : Declarations → List Span
+spans d =
+    variableSpans 5 (d .variables) ++ symbolSpans (length (varsLine (d .variables))) (d .variables) (d .symbols)

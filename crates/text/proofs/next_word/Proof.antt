@@ -1,0 +1,76 @@
+use mathlib.Core.Logic.{⊎-elim}
+use native.Mathlib.Omega.{arith}
+use borrow.Author.Needs.{needs}
+use borrow.Author.Tests.{eq-eqb, ne-eqb}
+use Rattle.form.specs.Scan.{nextWord}
+use Rattle.form.proofs.Scans.{spacesEnd-ge}
+use Rattle.text.proofs.next_word.Statement.{statement}
+use Rattle.text.proofs.next_word.Tie as tie
+
+spaces-end-requires : tie.Need-spaces-end-requires
+spaces-end-requires c κs = search needs
+
+peek-requires : tie.Need-peek-requires
+peek-requires c κs = search needs
+
+returns : tie.Need-returns
+unfolding nextWord
+returns c =
+    let q = c .before .before .before .spaces-end in
+    let b = c .before .before .peek in
+    rw (← q .ensures, ← b .ensures, eq-eqb _ _ (c .before .if1 .taken), eq-eqb _ 10 (c .if2 .taken))
+
+returns-2 : tie.Need-returns-2
+unfolding nextWord
+returns-2 c =
+    let q = c .before .before .before .spaces-end in
+    let b = c .before .before .peek in
+    rw (← q .ensures, ← b .ensures, eq-eqb _ _ (c .before .if1 .taken), ne-eqb _ 10 (c .if2 .left))
+
+returns-3 : tie.Need-returns-3
+unfolding nextWord
+returns-3 c =
+    let q = c .before .before .before .spaces-end in
+    let b = c .before .before .peek in
+    rw (← q .ensures, ← b .ensures, ne-eqb _ _ (c .before .if1 .left))
+    (⊎-elim (λ w. rw (eq-eqb (b .result) 10 (w .taken))) (λ w. rw (ne-eqb (b .result) 10 (w .0 .left), w .1 .taken)) (c .if3 .came))
+
+-- the spaces end past p, at a place that fits
+add-if5 : tie.Need-add-if5
+add-if5 c =
+    let a = c .before .before .before .before .before .before .args in
+    omega (arith, spacesEnd-ge (a .s .now) (a .p), c .before .before .before .before .spaces-end .ok)
+
+returns-4 : tie.Need-returns-4
+unfolding nextWord
+returns-4 c =
+    let q = c .before .before .before .before .before .spaces-end in
+    let b = c .before .before .before .before .peek in
+    rw (
+      ← q .ensures,
+      ← b .ensures,
+      ne-eqb _ _ (c .before .before .before .if1 .left),
+      ne-eqb (b .result) 10 (c .before .before .if3 .left),
+      c .before .if4 .left,
+      eq-eqb _ _ (c .if5 .taken),
+    )
+
+add-t9 : tie.Need-add-t9
+add-t9 c = add-if5 (c .before)
+
+returns-5 : tie.Need-returns-5
+unfolding nextWord
+returns-5 c =
+    let q = c .before .before .before .before .before .spaces-end in
+    let b = c .before .before .before .before .peek in
+    rw (
+      ← q .ensures,
+      ← b .ensures,
+      ne-eqb _ _ (c .before .before .before .if1 .left),
+      ne-eqb (b .result) 10 (c .before .before .if3 .left),
+      c .before .if4 .left,
+      ne-eqb _ _ (c .if5 .left),
+    )
+
+pub next-word-spec : {M : Type 1} → statement M
+next-word-spec = tie.close (tie.spec spaces-end-requires peek-requires returns returns-2 returns-3 add-if5 returns-4 add-t9 returns-5)
