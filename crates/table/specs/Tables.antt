@@ -1,0 +1,74 @@
+-- How the code holds symbols and names, padded to the length of its arrays, and how they are read back.
+use mathlib.Core.Path.{_≡_}
+use mathlib.Core.Bool.{Bool, true, cond}
+use mathlib.Core.List.{List, [], _++_, map}
+use Prim.Native.Nat.{ℕ, _+_, _≤_}
+use lib.Dec.{eqb, leb}
+use lib.ListN.{length, take, drop}
+use Rattle.laws.specs.Lists.{all}
+use Rattle.laws.specs.Parts.{pad}
+use Rattle.meaning.specs.Events as Events
+use Rattle.meaning.specs.Meaning.{noSymbol}
+use Rattle.meaning.specs.Book.{soundPlace}
+use Rattle.form.specs.Text.{Bytes, Span}
+use Rattle.form.specs.Lines as Lines
+use Rattle.table.specs.declared.Place.{Place}
+use Rattle.table.specs.declared.Symbol.{Symbol}
+use Rattle.table.specs.declared.Name.{Name}
+use Rattle.table.specs.declared.Table.{Table}
+
+-- plain to code; the canonical padding is the ignored place, the empty symbol, the empty name
+abbrev pub placeOf : Events.Place → Place
+placeOf Events.Place.ignored = record { tag = 0; number = 0 }
+placeOf (Events.Place.names v) = record { tag = 1; number = v }
+
+unfoldable pub symbolOf : Events.Symbol → Symbol
+symbolOf y =
+    record { kind = y .kind; count = length (y .places); places = pad 4 (placeOf Events.Place.ignored) (map placeOf (y .places)) }
+
+abbrev pub nameOf : Span → Name
+nameOf x = record { start = x .start; size = x .size }
+
+abbrev pub noName : Name
+noName = record { start = 0; size = 0 }
+
+unfoldable pub tableOf : Lines.Table → Table
+tableOf t =
+    record {
+      variables = length (t .variables);
+      count = length (t .table);
+      names = pad 20 noName (map nameOf (t .variables ++ t .symbols));
+      symbols = pad 16 (symbolOf noSymbol) (map symbolOf (t .table));
+    }
+
+-- code to plain: what is counted, and nothing beyond
+abbrev pub viewPlace : Place → Events.Place
+viewPlace p = cond (eqb (p .tag) 1) (Events.Place.names (p .number)) Events.Place.ignored
+
+unfoldable pub viewSymbol : Symbol → Events.Symbol
+viewSymbol y = record { kind = y .kind; places = map viewPlace (take (y .count) (y .places)) }
+
+abbrev pub spanOf : Name → Span
+spanOf n = record { start = n .start; size = n .size }
+
+unfoldable pub viewTable : Table → Lines.Table
+viewTable t =
+    record {
+      variables = map spanOf (take (t .variables) (t .names));
+      symbols = map spanOf (take (t .count) (drop (t .variables) (t .names)));
+      table = map viewSymbol (take (t .count) (t .symbols));
+    }
+
+-- a span inside a text of n bytes
+abbrev pub inside : ℕ → Span → Bool
+inside n x = leb (x .start + x .size) n
+
+-- a table that the reader has built over the text s: canonical, within the limits, its names inside the text, its argument
+-- places ignored or declared variables
+pub record Ready (s : Bytes) (t : Table) : Type 0 where
+  pub coded : t ≡ tableOf (viewTable t)
+  pub fewVariables : t .variables ≤ 4
+  pub fewSymbols : t .count ≤ 16
+  pub inText : all (inside (length s)) (viewTable t .variables ++ viewTable t .symbols) ≡ true
+  pub declared : all (λ y. all (soundPlace (t .variables)) (y .places)) (viewTable t .table) ≡ true
+  pub fewPlaces : all (λ y. leb (length (y .places)) 4) (viewTable t .table) ≡ true

@@ -1,0 +1,132 @@
+// The symbol table, by value, and the places of the declared names. For the readers of lines and patterns.
+ghost use mathlib.Core.Path.{_≡_};
+ghost use mathlib.Core.Bool.{true};
+ghost use mathlib.Core.List.{[], _∷_, map};
+ghost use Prim.Native.Nat.{_+_, _-_, _≤_, _<_};
+ghost use lib.ListN.{length, take, drop, set};
+ghost use Rattle.laws.specs.Lists.{all};
+ghost use Rattle.meaning.specs.Meaning.{noSymbol};
+ghost use Rattle.meaning.specs.Book.{soundPlace, boundIn};
+ghost use Rattle.form.specs.Scan.{part};
+ghost use Rattle.form.specs.Lines.{indexOf, noTable};
+ghost use Rattle.table.specs.Tables.{symbolOf, tableOf, spanOf, viewPlace, viewSymbol, inside};
+
+// An argument place of a symbol: tag 0, ignored; tag 1, the variable with that number.
+pub struct Place {
+    pub tag: u32,
+    pub number: u32,
+}
+
+pub struct Symbol {
+    pub kind: u32,
+    pub count: usize,
+    pub places: [Place; 4],
+}
+
+// The part of the text where a name is declared.
+pub struct Name {
+    pub start: usize,
+    pub size: usize,
+}
+
+// Variables' names come first, then symbols'.
+pub struct Table {
+    pub variables: usize,
+    pub count: usize,
+    pub names: [Name; 20],
+    pub symbols: [Symbol; 16],
+}
+
+pub fn no_symbol() -> Symbol
+    ensures { λ r. ⌜ r ≡ symbolOf noSymbol ⌝ }
+{
+    let p = Place { tag: 0, number: 0 };
+    Symbol {
+        kind: 0,
+        count: 0,
+        places: [p; 4],
+    }
+}
+
+pub fn no_table() -> Table
+    ensures { λ r. ⌜ r ≡ tableOf noTable ⌝ }
+{
+    let n = Name { start: 0, size: 0 };
+    let y = no_symbol();
+    Table {
+        variables: 0,
+        count: 0,
+        names: [n; 20],
+        symbols: [y; 16],
+    }
+}
+
+// The number, counted from `from`, of the first name before `to` that is the word from p to e; to - from where none is.
+pub fn find(s: &[u8], names: [Name; 20], from: usize, to: usize, p: usize, e: usize) -> usize
+    requires { ⌜ (from ≤ to) × (to ≤ 20) × (p ≤ e) × (e ≤ length (now s)) × (all (inside (length (now s))) (map spanOf (take (to - from) (drop from names))) ≡ true) ⌝ }
+    ensures { λ r. ⌜ r ≡ indexOf (now (s .entry)) (map spanOf (take (to - from) (drop from names))) (part (now (s .entry)) p e) ⌝ }
+{
+    let mut i = from;
+    while i < to {
+        let n = names[i];
+        let a = n.start;
+        let z = n.start + n.size;
+        if text::same(s, a, z, s, p, e) {
+            return i - from;
+        }
+        i += 1;
+    }
+    to - from
+}
+
+pub fn with_variable(t: Table, n: Name) -> Table
+    requires { ⌜ t .variables < 4 ⌝ }
+    ensures { λ r. ⌜ r ≡ record { variables = t .variables + 1; count = t .count; names = set (t .names) (t .variables) n; symbols = t .symbols } ⌝ }
+{
+    let at = t.variables;
+    let mut r = t;
+    r.names[at] = n;
+    r.variables = at + 1;
+    r
+}
+
+pub fn with_symbol(t: Table, n: Name, y: Symbol) -> Table
+    requires { ⌜ (t .variables ≤ 4) × (t .count < 16) ⌝ }
+    ensures { λ r. ⌜ r ≡ record { variables = t .variables; count = t .count + 1; names = set (t .names) (t .variables + t .count) n; symbols = set (t .symbols) (t .count) y } ⌝ }
+{
+    let at = t.count;
+    let place = t.variables + at;
+    let mut r = t;
+    r.names[place] = n;
+    r.symbols[at] = y;
+    r.count = at + 1;
+    r
+}
+
+// The variables that a place binds, one bit to a variable.
+fn place_bound(p: Place) -> u32
+    requires { ⌜ soundPlace 32 (viewPlace p) ≡ true ⌝ }
+    ensures { λ r. ⌜ r ≡ boundIn (viewPlace p ∷ []) ⌝ }
+{
+    let n = p.number;
+    if p.tag == 1 {
+        return 1u32 << n;
+    }
+    0
+}
+
+// Those that a symbol binds.
+pub fn bound_in(y: Symbol) -> u32
+    requires { ⌜ (y .count ≤ 4) × (all (soundPlace 32) (viewSymbol y .places) ≡ true) ⌝ }
+    ensures { λ r. ⌜ r ≡ boundIn (viewSymbol y .places) ⌝ }
+{
+    let mut m: u32 = 0;
+    let n = y.count;
+    let mut i = 0;
+    while i < n {
+        let p = y.places[i];
+        m = m | place_bound(p);
+        i += 1;
+    }
+    m
+}
