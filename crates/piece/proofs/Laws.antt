@@ -36,7 +36,7 @@ fails false h = refl
 
 module _ (r : Regex) (k p : ℕ) where
   -- what does not stand in the fragment is followed by nothing
-  follows-none : (Among r k p → ⊥) → following r k p ≡ 0
+  pub follows-none : (Among r k p → ⊥) → following r k p ≡ 0
   follows-none h = bits-equal (following r k p) 0 (λ q. fails (bit q (following r k p)) (λ b. h (following-among r k p q b .0)) ∙ sym (bit-zero q))
 
   ends-none : (Among r k p → ⊥) → bit p (ending r k) ≡ false

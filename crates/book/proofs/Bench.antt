@@ -1,0 +1,159 @@
+-- The theorems of the Bench level, about what `read`, `name_place` and `name` hand back (their contracts cite `reading`, `namePlace`
+-- and `nameBytes`): a text is accepted iff it is of the stated form, and then the book is what it declares.
+use mathlib.Core.Path.{_≡_, refl, sym, ap, _∙_}
+use mathlib.Core.Bool.{true, false, cond, and-eq-true-iff}
+use mathlib.Core.List.{List, [], map}
+use mathlib.Core.Logic.{_↔_}
+use Prim.Native.Nat.{ℕ, _≤_, _<_}
+use native.Mathlib.Omega.{arith}
+use lib.Dec.{eqb, leb}
+use lib.ListN.{length, getD, take, length-map, List·getD-eq-default, List·getD-map}
+use borrow.Author.Tests.{lt-ltb, ne-eqb, eqb-true, eqb-false}
+use Rattle.laws.specs.Lists.{any, all, keep, numbers}
+use Rattle.laws.specs.Parts.{pad}
+use Rattle.laws.proofs.Lists.{all-at, all-of, length-numbers}
+use Rattle.laws.proofs.Parts.{pad-take}
+use Rattle.pattern.specs.Regex.{Regex, In}
+use Rattle.pattern.specs.Positions as Positions
+use Rattle.pattern.proofs.Masks.{symbols-length}
+use Rattle.meaning.specs.Events.{Symbol}
+use Rattle.meaning.specs.Book as Plain
+use Rattle.meaning.specs.Book.{soundSymbol}
+use Rattle.meaning.proofs.Counts.{begin-count, end-count}
+use Rattle.meaning.proofs.Kept.{proper-sound}
+use Rattle.form.specs.Text.{Bytes, Declarations, tracematchOf, spans}
+use Rattle.form.specs.Form.{Shape, Form, allNames, binds, textLimit}
+use Rattle.form.specs.Lines.{bytesAt}
+use Rattle.form.specs.Reading.{Outcome, readingOf}
+use Rattle.form.proofs.Accepted as Accepted
+use Rattle.form.proofs.Faults.{either}
+use Rattle.form.proofs.Header as Header
+use Rattle.form.proofs.Outcomes.{known}
+use Rattle.form.proofs.Pattern.{isBytes}
+use Rattle.form.proofs.Shapes.{shape-found}
+use Rattle.table.specs.Tables.{tableOf, viewTable}
+use Rattle.table.proofs.Codes.{Fits, view-table}
+use Rattle.book.specs.Answers.{numberOf, placeOf, answerOf}
+use Rattle.book.specs.Books.{emptyBook, readingFor, bookFor, reading, viewBook, namePlace, nameBytes}
+use Rattle.book.specs.declared.Answer.{Answer}
+use Rattle.book.specs.declared.Reading.{Reading}
+
+-- the enum keeps number and place, where the place is the fixed one of the two answers that have none
+module _ (n p : ℕ) where
+  abbrev Kept : Answer → Type 0
+  Kept a = (numberOf a ≡ n) × (placeOf a ≡ p)
+
+  -- one test of the chain: the number is k, or it is above k
+  kept-by : (a : Answer) (k : ℕ) (b : Answer) → k ≤ n → (n ≡ k → Kept a) → (k < n → Kept b) → Kept (cond (eqb n k) a b)
+  kept-by a k b l f g = either Kept (eqb n k) (λ e. f (eqb-true n k e)) λ e. let d = eqb-false n k e in g (omega arith)
+
+  kept : n ≤ 8 → (n ≡ 0 → 0 ≡ p) → (n ≡ 1 → textLimit ≡ p) → Kept (answerOf n p)
+  unfolding answerOf
+  kept h none long =
+      kept-by _ 0 _ (omega arith) (λ e. (sym e, none e)) λ l. kept-by _ 1 _ l (λ e. (sym e, long e)) λ l.
+      kept-by _ 2 _ l (λ e. (sym e, refl)) λ l. kept-by _ 3 _ l (λ e. (sym e, refl)) λ l. kept-by _ 4 _ l (λ e. (sym e, refl)) λ l.
+      kept-by _ 5 _ l (λ e. (sym e, refl)) λ l. kept-by _ 6 _ l (λ e. (sym e, refl)) λ l. kept-by _ 7 _ l (λ e. (sym e, refl)) λ l. (omega arith, refl)
+
+-- accepted or refused, the answer is that of number and place
+answer-of : (o : Outcome) → readingFor o .answer ≡ answerOf (o .number) (o .place)
+unfolding readingFor
+answer-of o = either (λ (r : Reading). r .answer ≡ answerOf (o .number) (o .place)) (eqb (o .number) 0) (λ _. refl) λ _. refl
+
+long-place : (s : Bytes) → readingOf s .number ≡ 1 → textLimit ≡ readingOf s .place
+unfolding readingOf
+long-place s e = rw (lt-ltb textLimit (length s) (Accepted.too-long s .0 e))
+
+told : (s : Bytes) → (numberOf (reading s .answer) ≡ readingOf s .number) × (placeOf (reading s .answer) ≡ readingOf s .place)
+told s =
+    let o = readingOf s in
+    rw (answer-of o) (kept (o .number) (o .place) (Accepted.number-range s) (λ e. sym (ap (λ z. z .place) (known s .read e))) (long-place s))
+
+-- the enum's number and place are the reading's
+pub answer-number : (s : Bytes) → numberOf (reading s .answer) ≡ readingOf s .number
+answer-number s = told s .0
+
+pub answer-place : (s : Bytes) → placeOf (reading s .answer) ≡ readingOf s .place
+answer-place s = told s .1
+
+-- a refusal stands inside the text, and leaves the empty book and no count
+pub refusal-place : (s : Bytes) → placeOf (reading s .answer) ≤ length s
+refusal-place s = rw (answer-place s) (Accepted.place-inside s)
+
+pub refusal-book : (s : Bytes) → (numberOf (reading s .answer) ≡ 0 → ⊥)
+    → (reading s .book ≡ emptyBook) × (reading s .«begin_count» ≡ 0) × (reading s .«end_count» ≡ 0)
+unfolding readingFor
+refusal-book s h = rw (ne-eqb (readingOf s .number) 0 λ e. h (answer-number s ∙ e)) (refl, refl, refl)
+
+-- lines that say something in form have few argument places
+few-places : (v : ℕ) (l : List Symbol) → all (soundSymbol v) l ≡ true → all (λ y. leb (length (y .places)) 4) l ≡ true
+unfolding soundSymbol
+few-places v l h = all-of _ l λ y m. simp and-eq-true-iff at (all-at (soundSymbol v) h m) .0 .1
+
+module _ (s : Bytes) (bytes : isBytes s ≡ true) where
+  -- the table of a text in form
+  table-view : (d : Declarations) (r : Regex) → Form s d r → (length (Header.tableOf d .variables) ≡ length (d .variables))
+      × (viewTable (tableOf (Header.tableOf d)) ≡ Header.tableOf d)
+  table-view d r f =
+      let t = Header.tableOf d in
+      let h = f .shape in
+      let (a, b) = Header.header-names s d (shape-found s bytes d r h .header) in
+      let e : length (t .variables) ≡ length (d .variables) = sym (length-map (t .variables) (bytesAt s)) ∙ ap length a in
+      let g : Fits t =
+      record {
+        fewVariables = rw e (h .fewVariables);
+        fewSymbols = rw length-map (h .fewSymbols);
+        paired = sym (length-map (t .symbols) (bytesAt s)) ∙ ap length b ∙ simp length-map;
+        fewPlaces = few-places (length (d .variables)) (t .table) (Accepted.form-proper s d r f .symbols);
+      } in
+      (e, view-table t g)
+
+  -- of any number: behind the names both sides are empty
+  named : (d : Declarations) (r : Regex) → Form s d r → (n : ℕ) → nameBytes s n ≡ getD (allNames d) n []
+  unfolding nameBytes namePlace
+  named d r f n = rw (Accepted.fields s bytes d r f, ← List·getD-map (bytesAt s), Accepted.names-placed s bytes d r (f .shape))
+
+  pub accepted : (numberOf (reading s .answer) ≡ 0) ↔ ((d : Declarations) × (r : Regex) × Form s d r)
+  accepted = rw (answer-number s) (Accepted.accepted s bytes)
+
+  -- the book is that of the declared tracematch
+  pub fields : (d : Declarations) (r : Regex) → Form s d r → viewBook (reading s .book) ≡ Plain.bookOf (tracematchOf d r)
+  unfolding readingFor bookFor viewBook Plain.bookOf tableOf viewTable
+  fields d r f =
+      let (v, w) = table-view d r f in
+      let n = Positions.size r in
+      let m = map (Positions.following r 1) (numbers 1 n) in
+      let x : take n (pad 31 0 (Positions.symbols r)) ≡ Positions.symbols r = rw (← symbols-length r) (pad-take 31 0 (Positions.symbols r)) in
+      let y : take n (pad 31 0 m) ≡ m = ap (λ k. take k (pad 31 0 m)) (sym (length-map (numbers 1 n) _ ∙ length-numbers 1 n)) ∙ pad-take 31 0 m in
+      rw (Accepted.fields s bytes d r f, v, ap (λ t. t .table) w, x, y)
+
+  -- the counts are the numbers of beginning and ending positions
+  pub counts : (d : Declarations) (r : Regex) → Form s d r → let b = Plain.bookOf (tracematchOf d r) in
+      (reading s .«begin_count» ≡ length (keep (Plain.beginsAt b) (Plain.positions b)))
+      × (reading s .«end_count» ≡ length (keep (Plain.endsAt b) (Plain.positions b)))
+  unfolding readingFor Plain.bookOf
+  counts d r f =
+      let h = proper-sound _ (Accepted.form-proper s d r f) in
+      rw (Accepted.fields s bytes d r f) (begin-count _ h, end-count _ h)
+
+  -- the name with a number is the declared one, at its declaring place
+  pub names : (d : Declarations) (r : Regex) → Form s d r → (n : ℕ) → n < length (allNames d)
+      → (nameBytes s n ≡ getD (allNames d) n []) × (namePlace s n ≡ getD (spans d) n (record { start = 0; size = 0 }))
+  unfolding namePlace
+  names d r f n h = (named d r f n, rw (Accepted.fields s bytes d r f))
+
+  -- beyond them, the empty part
+  pub no-name : (d : Declarations) (r : Regex) → Form s d r → (n : ℕ) → length (allNames d) ≤ n → nameBytes s n ≡ []
+  no-name d r f n h = named d r f n ∙ List·getD-eq-default (allNames d) [] h
+
+  pub seven : (numberOf (reading s .answer) ≡ 7) ↔ ((d : Declarations) × (r : Regex) × Shape s d r × In r [])
+  seven = rw (answer-number s) (Accepted.seven s bytes)
+
+  pub eight : (numberOf (reading s .answer) ≡ 8)
+      ↔ ((d : Declarations) × (r : Regex) × Shape s d r × (In r [] → ⊥)
+      × ((v : ℕ) × (w : List ℕ) × (v < length (d .variables)) × In r w × (any (binds d v) w ≡ false)))
+  eight = rw (answer-number s) (Accepted.eight s bytes)
+
+-- a refused text has no names
+pub refused-name : (s : Bytes) (n : ℕ) → (numberOf (reading s .answer) ≡ 0 → ⊥) → nameBytes s n ≡ []
+unfolding nameBytes namePlace
+refused-name s n h = rw (Accepted.refused-empty s (λ e. h (answer-number s ∙ e)) .0)

@@ -1,0 +1,2 @@
+-- What a reading hands back, in terms of the stated form.
+pub mod Bench

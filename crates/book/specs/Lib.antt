@@ -1,0 +1,4 @@
+-- What the reader hands back: Answers (document 01's number and place for each answer) and Books (the book as the code holds it, its
+-- view, and the places of names).
+pub mod Answers
+pub mod Books

@@ -1,0 +1,106 @@
+// The book by value, the answers of a reading, and what a reading hands back. For the reader and, later, the matcher.
+use piece::Piece;
+use table::Name;
+use table::Symbol;
+use table::Table;
+ghost use mathlib.Core.Path.{_≡_};
+ghost use Rattle.book.specs.Answers.{answerOf};
+ghost use Rattle.book.specs.Books.{emptyBook};
+
+// Counts, the declaring places of names, the symbol table, and the pattern as positions: index i of `occurrences` and `follows` is
+// position i + 1; sets of positions are kept one bit to a position.
+pub struct Book {
+    pub variables: usize,
+    pub symbols: usize,
+    pub names: [Name; 20],
+    pub table: [Symbol; 16],
+    pub positions: usize,
+    pub occurrences: [u32; 31],
+    pub begins: u32,
+    pub ends: u32,
+    pub follows: [u32; 31],
+    pub empty: bool,
+}
+
+// The answers 0 to 8 of document 01; a place is the first byte of the offending word or token.
+pub enum Answer {
+    Accepted,
+    TooLong,
+    BadLine(usize),
+    AboveLimit(usize),
+    Redeclared(usize),
+    Undeclared(usize),
+    BadPattern(usize),
+    EmptyWord(usize),
+    Unbound(usize),
+}
+
+// What a reading hands back: the answer, the book, and the counts of its beginning and ending positions.
+pub struct Reading {
+    pub answer: Answer,
+    pub book: Book,
+    pub begin_count: u32,
+    pub end_count: u32,
+}
+
+// The book of a table and a pattern.
+pub fn book_of(t: Table, x: Piece) -> Book
+    ensures { λ r. ⌜ r ≡ record { variables = t .variables; symbols = t .count; names = t .names; table = t .symbols; positions = x .size; occurrences = x .symbols; begins = x .begins; ends = x .ends; follows = x .follows; empty = x .empty } ⌝ }
+{
+    let names = t.names;
+    let table = t.symbols;
+    let occurrences = x.symbols;
+    let follows = x.follows;
+    Book {
+        variables: t.variables,
+        symbols: t.count,
+        names: names,
+        table: table,
+        positions: x.size,
+        occurrences: occurrences,
+        begins: x.begins,
+        ends: x.ends,
+        follows: follows,
+        empty: x.empty,
+    }
+}
+
+// The empty book, in which all is zero.
+pub fn empty_book() -> Book
+    ensures { λ r. ⌜ r ≡ emptyBook ⌝ }
+{
+    let t = table::no_table();
+    let x = piece::nothing();
+    book_of(t, x)
+}
+
+// The answer with a number and a place.
+pub fn answer_of(fault: usize, place: usize) -> Answer
+    ensures { λ r. ⌜ r ≡ answerOf fault place ⌝ }
+{
+    match fault {
+        0 => Answer::Accepted,
+        1 => Answer::TooLong,
+        2 => Answer::BadLine(place),
+        3 => Answer::AboveLimit(place),
+        4 => Answer::Redeclared(place),
+        5 => Answer::Undeclared(place),
+        6 => Answer::BadPattern(place),
+        7 => Answer::EmptyWord(place),
+        _ => Answer::Unbound(place),
+    }
+}
+
+// What a refused text gives.
+pub fn refused(fault: usize, place: usize) -> Reading
+    ensures { λ r. ⌜ r ≡ record { answer = answerOf fault place; book = emptyBook; «begin_count» = 0; «end_count» = 0 } ⌝ }
+{
+    let answer = answer_of(fault, place);
+    let book = empty_book();
+    Reading {
+        answer: answer,
+        book: book,
+        begin_count: 0,
+        end_count: 0,
+    }
+}
