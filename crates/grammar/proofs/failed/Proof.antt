@@ -1,0 +1,12 @@
+use borrow.Author.Needs.{needs}
+use Rattle.grammar.proofs.failed.Statement.{statement}
+use Rattle.grammar.proofs.failed.Tie as tie
+
+nothing-requires : tie.Need-nothing-requires
+nothing-requires c κs = search needs
+
+returns : tie.Need-returns
+returns c = rw (c .nothing .ensures)
+
+pub failed-spec : {M : Type 1} → statement M
+failed-spec = tie.close (tie.spec nothing-requires returns)
