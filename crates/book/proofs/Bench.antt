@@ -3,8 +3,8 @@
 use mathlib.Core.Path.{_≡_, refl, sym, ap, _∙_}
 use mathlib.Core.Bool.{true, false, cond, and-eq-true-iff}
 use mathlib.Core.List.{List, [], map}
-use mathlib.Core.Logic.{_↔_}
-use Prim.Native.Nat.{ℕ, _≤_, _<_}
+use mathlib.Core.Logic.{_↔_, _⊎_}
+use Prim.Native.Nat.{ℕ, _+_, _≤_, _<_}
 use native.Mathlib.Omega.{arith}
 use lib.Dec.{eqb, leb}
 use lib.ListN.{length, getD, take, length-map, List·getD-eq-default, List·getD-map}
@@ -21,17 +21,17 @@ use Rattle.meaning.specs.Book as Plain
 use Rattle.meaning.specs.Book.{soundSymbol}
 use Rattle.meaning.proofs.Counts.{begin-count, end-count}
 use Rattle.meaning.proofs.Kept.{proper-sound}
-use Rattle.form.specs.Text.{Bytes, Declarations, tracematchOf, spans}
+use Rattle.form.specs.Text.{Bytes, Declarations, header, tracematchOf, spans}
 use Rattle.form.specs.Form.{Shape, Form, allNames, binds, textLimit}
+use Rattle.form.specs.Scan.{run, isSpace}
 use Rattle.form.specs.Lines.{bytesAt}
 use Rattle.form.specs.Reading.{Outcome, readingOf}
 use Rattle.form.proofs.Accepted as Accepted
 use Rattle.form.proofs.Faults.{either}
-use Rattle.form.proofs.Header as Header
+use Rattle.form.proofs.Header.{tableOf, header-names}
 use Rattle.form.proofs.Outcomes.{known}
-use Rattle.form.proofs.Pattern.{isBytes}
 use Rattle.form.proofs.Shapes.{shape-found}
-use Rattle.table.specs.Tables.{tableOf, viewTable}
+use Rattle.table.specs.Tables.{tableOf as heldTable, viewTable, nameOf, noName}
 use Rattle.table.proofs.Codes.{Fits, view-table}
 use Rattle.book.specs.Answers.{numberOf, placeOf, answerOf}
 use Rattle.book.specs.Books.{emptyBook, readingFor, bookFor, reading, viewBook, namePlace, nameBytes}
@@ -89,14 +89,14 @@ few-places : (v : ℕ) (l : List Symbol) → all (soundSymbol v) l ≡ true → 
 unfolding soundSymbol
 few-places v l h = all-of _ l λ y m. simp and-eq-true-iff at (all-at (soundSymbol v) h m) .0 .1
 
-module _ (s : Bytes) (bytes : isBytes s ≡ true) where
+module _ (s : Bytes) where
   -- the table of a text in form
-  table-view : (d : Declarations) (r : Regex) → Form s d r → (length (Header.tableOf d .variables) ≡ length (d .variables))
-      × (viewTable (tableOf (Header.tableOf d)) ≡ Header.tableOf d)
+  table-view : (d : Declarations) (r : Regex) → Form s d r → (length (tableOf d .variables) ≡ length (d .variables))
+      × (viewTable (heldTable (tableOf d)) ≡ tableOf d)
   table-view d r f =
-      let t = Header.tableOf d in
+      let t = tableOf d in
       let h = f .shape in
-      let (a, b) = Header.header-names s d (shape-found s bytes d r h .header) in
+      let (a, b) = header-names s d (shape-found s d r h .header) in
       let e : length (t .variables) ≡ length (d .variables) = sym (length-map (t .variables) (bytesAt s)) ∙ ap length a in
       let g : Fits t =
       record {
@@ -110,21 +110,21 @@ module _ (s : Bytes) (bytes : isBytes s ≡ true) where
   -- of any number: behind the names both sides are empty
   named : (d : Declarations) (r : Regex) → Form s d r → (n : ℕ) → nameBytes s n ≡ getD (allNames d) n []
   unfolding nameBytes namePlace
-  named d r f n = rw (Accepted.fields s bytes d r f, ← List·getD-map (bytesAt s), Accepted.names-placed s bytes d r (f .shape))
+  named d r f n = rw (Accepted.fields s d r f, ← List·getD-map (bytesAt s), Accepted.names-placed s d r (f .shape))
 
   pub accepted : (numberOf (reading s .answer) ≡ 0) ↔ ((d : Declarations) × (r : Regex) × Form s d r)
-  accepted = rw (answer-number s) (Accepted.accepted s bytes)
+  accepted = rw (answer-number s) (Accepted.accepted s)
 
   -- the book is that of the declared tracematch
   pub fields : (d : Declarations) (r : Regex) → Form s d r → viewBook (reading s .book) ≡ Plain.bookOf (tracematchOf d r)
-  unfolding readingFor bookFor viewBook Plain.bookOf tableOf viewTable
+  unfolding readingFor bookFor viewBook Plain.bookOf heldTable viewTable
   fields d r f =
       let (v, w) = table-view d r f in
       let n = Positions.size r in
       let m = map (Positions.following r 1) (numbers 1 n) in
       let x : take n (pad 31 0 (Positions.symbols r)) ≡ Positions.symbols r = rw (← symbols-length r) (pad-take 31 0 (Positions.symbols r)) in
       let y : take n (pad 31 0 m) ≡ m = ap (λ k. take k (pad 31 0 m)) (sym (length-map (numbers 1 n) _ ∙ length-numbers 1 n)) ∙ pad-take 31 0 m in
-      rw (Accepted.fields s bytes d r f, v, ap (λ t. t .table) w, x, y)
+      rw (Accepted.fields s d r f, v, ap (λ t. t .table) w, x, y)
 
   -- the counts are the numbers of beginning and ending positions
   pub counts : (d : Declarations) (r : Regex) → Form s d r → let b = Plain.bookOf (tracematchOf d r) in
@@ -133,27 +133,67 @@ module _ (s : Bytes) (bytes : isBytes s ≡ true) where
   unfolding readingFor Plain.bookOf
   counts d r f =
       let h = proper-sound _ (Accepted.form-proper s d r f) in
-      rw (Accepted.fields s bytes d r f) (begin-count _ h, end-count _ h)
+      rw (Accepted.fields s d r f) (begin-count _ h, end-count _ h)
 
   -- the name with a number is the declared one, at its declaring place
   pub names : (d : Declarations) (r : Regex) → Form s d r → (n : ℕ) → n < length (allNames d)
       → (nameBytes s n ≡ getD (allNames d) n []) × (namePlace s n ≡ getD (spans d) n (record { start = 0; size = 0 }))
   unfolding namePlace
-  names d r f n h = (named d r f n, rw (Accepted.fields s bytes d r f))
+  names d r f n h = (named d r f n, rw (Accepted.fields s d r f))
 
   -- beyond them, the empty part
   pub no-name : (d : Declarations) (r : Regex) → Form s d r → (n : ℕ) → length (allNames d) ≤ n → nameBytes s n ≡ []
   no-name d r f n h = named d r f n ∙ List·getD-eq-default (allNames d) [] h
 
   pub seven : (numberOf (reading s .answer) ≡ 7) ↔ ((d : Declarations) × (r : Regex) × Shape s d r × In r [])
-  seven = rw (answer-number s) (Accepted.seven s bytes)
+  seven = rw (answer-number s) (Accepted.seven s)
 
   pub eight : (numberOf (reading s .answer) ≡ 8)
       ↔ ((d : Declarations) × (r : Regex) × Shape s d r × (In r [] → ⊥)
       × ((v : ℕ) × (w : List ℕ) × (v < length (d .variables)) × In r w × (any (binds d v) w ≡ false)))
-  eight = rw (answer-number s) (Accepted.eight s bytes)
+  eight = rw (answer-number s) (Accepted.eight s)
 
 -- a refused text has no names
 pub refused-name : (s : Bytes) (n : ℕ) → (numberOf (reading s .answer) ≡ 0 → ⊥) → nameBytes s n ≡ []
 unfolding nameBytes namePlace
 refused-name s n h = rw (Accepted.refused-empty s (λ e. h (answer-number s ∙ e)) .0)
+
+-- nor a declaring place; nor has a number that is not declared
+pub refused-place : (s : Bytes) (n : ℕ) → (numberOf (reading s .answer) ≡ 0 → ⊥) → namePlace s n ≡ record { start = 0; size = 0 }
+unfolding namePlace
+refused-place s n h = rw (Accepted.refused-empty s (λ e. h (answer-number s ∙ e)) .0)
+
+pub no-place : (s : Bytes) (d : Declarations) (r : Regex) → Form s d r → (n : ℕ) → length (allNames d) ≤ n → namePlace s n ≡ record { start = 0; size = 0 }
+unfolding namePlace
+no-place s d r f n h =
+    let l : length (spans d) ≤ n = omega (arith, length-map (spans d) (bytesAt s), ap length (Accepted.names-placed s d r (f .shape))) in
+    rw (Accepted.fields s d r f) (List·getD-eq-default (spans d) _ l)
+
+-- the whole struct of an accepted text, every array with its padding; its names are the declaring places
+pub whole : (s : Bytes) (d : Declarations) (r : Regex) → Form s d r
+    → reading s .book ≡ bookFor (record { number = 0; place = 0; table = tableOf d; tree = r })
+unfolding readingFor
+whole s d r f = ap (λ o. readingFor o .book) (Accepted.fields s d r f)
+
+pub book-names : (s : Bytes) (d : Declarations) (r : Regex) → Form s d r → reading s .book .names ≡ pad 20 noName (map nameOf (spans d))
+unfolding bookFor heldTable
+book-names s d r f = ap (λ b. b .names) (whole s d r f)
+
+-- "A read book … never gets 9": the book's share of it
+pub sound : (s : Bytes) → numberOf (reading s .answer) ≡ 0 → Plain.soundBook (viewBook (reading s .book)) ≡ true
+sound s h =
+    let (d, r, f) = accepted s .0 h in
+    rw (fields s d r f) (proper-sound _ (Accepted.form-proper s d r f))
+
+-- 1 exactly for a text over 4,096 bytes
+pub too-long : (s : Bytes) → (numberOf (reading s .answer) ≡ 1) ↔ (textLimit < length s)
+too-long s = rw (answer-number s) (Accepted.too-long s)
+
+-- where 7 and 8 stand
+pub words-place : (s : Bytes) (d : Declarations) (r : Regex) (f : Shape s d r) → (numberOf (reading s .answer) ≡ 7) ⊎ (numberOf (reading s .answer) ≡ 8)
+    → placeOf (reading s .answer) ≡ length (header d) + 6 + run isSpace (f .written)
+words-place s d r f h = answer-place s ∙ Accepted.words-place s d r f (rw (answer-number s) at h)
+
+-- a text has at most one list of declarations and one tree
+pub unique : (s : Bytes) (d e : Declarations) (r q : Regex) → Shape s d r → Shape s e q → (d ≡ e) × (r ≡ q)
+unique = Accepted.unique

@@ -55,7 +55,7 @@ bookFor o =
       empty = nullable r;
     }
 
--- "The book's answer also counts its beginning and its ending positions"; "a refused text leaves the empty book"
+-- "the book's answer also counts its beginning and its ending positions"; a refused text leaves the "empty book"
 unfoldable pub readingFor : Outcome → Reading
 readingFor o =
     let accepted : Reading = record {

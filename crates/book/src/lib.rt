@@ -4,7 +4,7 @@ use table::Name;
 use table::Symbol;
 use table::Table;
 ghost use mathlib.Core.Path.{_≡_};
-ghost use Rattle.book.specs.Answers.{answerOf};
+ghost use Rattle.book.specs.Answers.{answerOf, numberOf, placeOf};
 ghost use Rattle.book.specs.Books.{emptyBook};
 
 // Counts, the declaring places of names, the symbol table, and the pattern as positions: index i of `occurrences` and `follows` is
@@ -102,5 +102,39 @@ pub fn refused(fault: usize, place: usize) -> Reading
         book: book,
         begin_count: 0,
         end_count: 0,
+    }
+}
+
+// Document 01's number of an answer.
+pub fn number_of(a: Answer) -> usize
+    ensures { λ r. ⌜ r ≡ numberOf a ⌝ }
+{
+    match a {
+        Answer::Accepted => 0,
+        Answer::TooLong => 1,
+        Answer::BadLine(_) => 2,
+        Answer::AboveLimit(_) => 3,
+        Answer::Redeclared(_) => 4,
+        Answer::Undeclared(_) => 5,
+        Answer::BadPattern(_) => 6,
+        Answer::EmptyWord(_) => 7,
+        Answer::Unbound(_) => 8,
+    }
+}
+
+// The place beside it.
+pub fn place_of(a: Answer) -> usize
+    ensures { λ r. ⌜ r ≡ placeOf a ⌝ }
+{
+    match a {
+        Answer::Accepted => 0,
+        Answer::TooLong => 4096,
+        Answer::BadLine(p) => p,
+        Answer::AboveLimit(p) => p,
+        Answer::Redeclared(p) => p,
+        Answer::Undeclared(p) => p,
+        Answer::BadPattern(p) => p,
+        Answer::EmptyWord(p) => p,
+        Answer::Unbound(p) => p,
     }
 }

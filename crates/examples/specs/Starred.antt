@@ -51,7 +51,7 @@ table =
     ∷ reads "vars d\nsym a 1 d\nmatch (a\n" 6 25
     ∷ reads "vars d\nsym a 1 d\nmatch (((((((((((((((((a)))))))))))))))))\n" 3 39
     ∷ reads "vars d\nsym a 1 d\nmatch ((((((((((((((((a))))))))))))))))\n" 0 0
-    -- "`vars d s` with the same symbol, `match a`: 8 at 25. Empty book: 2 at 0."
+    -- "`vars d s` with the same symbol, `match a`: 8 at 25." "Empty book: 2 at 0."
     ∷ reads "vars d s\nsym a 1 d\nmatch a\n" 8 25
     ∷ reads "" 2 0
     ∷ []

@@ -3,8 +3,8 @@
 use mathlib.Core.Path.{_≡_, refl, sym, ap, ap₂, _∙_}
 use mathlib.Core.Bool.{Bool, true, false, true≢false, not-eq-not}
 use mathlib.Core.List.{List, [], _∷_, _++_, map, map-append, nil≢cons}
-use mathlib.Core.Logic.{_↔_, _⊎_, inl, inr, Iff·rfl}
-use Prim.Native.Nat.{ℕ, _≤_, _<_}
+use mathlib.Core.Logic.{_↔_, _⊎_, inl, inr, ⊎-elim, Iff·rfl}
+use Prim.Native.Nat.{ℕ, _+_, _≤_, _<_}
 use native.Mathlib.Omega.{arith}
 use borrow.Author.Tests.{lt-ltb}
 use lib.Dec.{ltb}
@@ -17,16 +17,17 @@ use Rattle.pattern.specs.Positions as Positions
 use Rattle.pattern.proofs.Words as Words
 use Rattle.meaning.specs.Book.{Proper}
 use Rattle.meaning.proofs.ProperTest.{bit-boundIn, all-below}
-use Rattle.form.specs.Text.{Bytes, Declarations, SymbolLine, symbolOf, tracematchOf, spans}
+use Rattle.form.specs.Text.{Bytes, Declarations, SymbolLine, header, symbolOf, tracematchOf, spans}
 use Rattle.form.specs.Tokens.{Token}
 use Rattle.form.specs.Phrase.{Phrase, Level, symbol, group, plain, starred, plussed, optional, last, then, only, or}
 use Rattle.form.specs.Form.{Shape, Form, allNames, binds, textLimit}
+use Rattle.form.specs.Scan.{run, isSpace}
 use Rattle.form.specs.Lines.{noTable, bytesAt}
 use Rattle.form.specs.Reading.{variablesOf, readingOf}
 use Rattle.form.proofs.Header.{tableOf, header-names}
-use Rattle.form.proofs.Pattern.{isBytes}
-use Rattle.form.proofs.Outcomes.{patternOf, bindsAll, answer, known}
-use Rattle.form.proofs.Shapes.{Found, shape-found, whole-shape}
+use Rattle.form.proofs.Outcomes.{patternOf, bindsAll, answer, known, words-first}
+use Rattle.form.proofs.Ascii.{shape-ascii}
+use Rattle.form.proofs.Shapes.{Found, shape-found, shape-first, whole-shape}
 
 -- a phrase has declared symbols only
 phrase-declared : {names : List Bytes} {k : Level} {d : ℕ} {ts : List Token} {r : Regex} → Phrase names k d ts r
@@ -96,8 +97,7 @@ module _ (s : Bytes) (d : Declarations) (r : Regex) (f : Found s d r) where
       let (w, i, n) = Words.free vars v r b in
       (v, w, omega (arith, mem-numbers v 0 count .0 m), i, simp bit-boundIn at n)
 
--- every theorem is about a list of bytes, numbers below 256
-module _ (s : Bytes) (bytes : isBytes s ≡ true) where
+module _ (s : Bytes) where
   -- the number of a text in form is the answer of its words, and only such a text has 0, 7 or 8
   by-words : (d : Declarations) (r : Regex) → Found s d r → readingOf s .number ≡ answer (nullable (patternOf s .tree)) (bindsAll s)
   by-words d r g = known s .words (g .whole)
@@ -106,13 +106,13 @@ module _ (s : Bytes) (bytes : isBytes s ≡ true) where
       → (d : Declarations) × Shape s d (patternOf s .tree) × Found s d (patternOf s .tree)
       × (answer (nullable (patternOf s .tree)) (bindsAll s) ≡ n)
   in-form n e h =
-      let (d, f) = whole-shape s bytes (known s .whole (rw e h)) in
-      let g = shape-found s bytes d _ f in
+      let (d, f) = whole-shape s (known s .whole (rw e h)) in
+      let g = shape-found s d _ f in
       (d, f, g, sym (by-words d _ g) ∙ e)
 
   pub fields : (d : Declarations) (r : Regex) → Form s d r → readingOf s ≡ record { number = 0; place = 0; table = tableOf d; tree = r }
   fields d r f =
-      let g = shape-found s bytes d r (f .shape) in
+      let g = shape-found s d r (f .shape) in
       let n : nullable (patternOf s .tree) ≡ false = not-eq-not .0 (λ e. f .nonempty (flag s d r g .1 e)) in
       let b : bindsAll s ≡ true = bound s d r g .1 (f .binding) in
       known s .read (by-words d r g ∙ rw (n, b)) ∙ rw (g .tree, g .table)
@@ -127,8 +127,8 @@ module _ (s : Bytes) (bytes : isBytes s ≡ true) where
 
   pub unique : (d e : Declarations) (r q : Regex) → Shape s d r → Shape s e q → (d ≡ e) × (r ≡ q)
   unique d e r q f g =
-      let x = shape-found s bytes d r f in
-      let y = shape-found s bytes e q g in
+      let x = shape-found s d r f in
+      let y = shape-found s e q g in
       let n = header-names s d (x .header) in
       let o = header-names s e (y .header) in
       let t : tableOf d ≡ tableOf e = sym (x .table) ∙ y .table in
@@ -140,13 +140,13 @@ module _ (s : Bytes) (bytes : isBytes s ≡ true) where
   -- the declaring places hold the names, variables first
   pub names-placed : (d : Declarations) (r : Regex) → Shape s d r → map (bytesAt s) (spans d) ≡ allNames d
   names-placed d r f =
-      let n = header-names s d (shape-found s bytes d r f .header) in
+      let n = header-names s d (shape-found s d r f .header) in
       map-append (bytesAt s) (tableOf d .variables) (tableOf d .symbols) ∙ ap₂ _++_ (n .0) (n .1)
 
   pub seven : (readingOf s .number ≡ 7) ↔ ((d : Declarations) × (r : Regex) × Shape s d r × In r [])
   seven = (
     λ e. let (d, f, g, a) = in-form 7 e (inr (omega arith)) in (d, _, f, flag s d _ g .1 (told _ (bindsAll s) .1 a)),
-    λ (d, r, f, i). let g = shape-found s bytes d r f in by-words d r g ∙ rw (flag s d r g .0 i),
+    λ (d, r, f, i). let g = shape-found s d r f in by-words d r g ∙ rw (flag s d r g .0 i),
   )
 
   pub eight : (readingOf s .number ≡ 8)
@@ -156,7 +156,7 @@ module _ (s : Bytes) (bytes : isBytes s ≡ true) where
     λ e. let (d, f, g, a) = in-form 8 e (inr (omega arith)) in
         let (n, b) = told _ _ .2 a in
         (d, _, f, λ i. true≢false (sym (flag s d _ g .0 i) ∙ n), free s d _ g b),
-    λ (d, r, f, n, (v, w, l, i, e)). let g = shape-found s bytes d r f in
+    λ (d, r, f, n, (v, w, l, i, e)). let g = shape-found s d r f in
         let flagged : nullable (patternOf s .tree) ≡ false = not-eq-not .0 (λ h. n (flag s d r g .1 h)) in
         let masked : bindsAll s ≡ false = not-eq-not .0 (λ h. true≢false (sym (bound s d r g .0 h v l w i) ∙ e)) in
         by-words d r g ∙ rw (flagged, masked),
@@ -175,3 +175,14 @@ number-range s = known s .range
 
 pub refused-empty : (s : Bytes) → (readingOf s .number ≡ 0 → ⊥) → (readingOf s .table ≡ noTable) × (readingOf s .tree ≡ lit 0)
 refused-empty s h = known s .blank h
+
+-- "7, then 8, after everything, placed at the pattern's first token": behind the lines, `match`, a space and the spaces that follow
+pub words-place : (s : Bytes) (d : Declarations) (r : Regex) (f : Shape s d r) → (readingOf s .number ≡ 7) ⊎ (readingOf s .number ≡ 8)
+    → readingOf s .place ≡ length (header d) + 6 + run isSpace (f .written)
+words-place s d r f h =
+    let n : 7 ≤ readingOf s .number = ⊎-elim (λ e. omega arith) (λ e. omega arith) h in
+    words-first s (shape-found s d r f .whole) n ∙ shape-first s d r f
+
+-- "A book is ASCII text"
+pub ascii : (s : Bytes) (d : Declarations) (r : Regex) → Shape s d r → all (λ b. ltb b 128) s ≡ true
+ascii = shape-ascii

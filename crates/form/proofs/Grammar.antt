@@ -13,14 +13,17 @@ use Rattle.pattern.specs.Regex.{Regex}
 use Rattle.form.specs.Text.{Bytes, space, lf, isLower, isDigit, isNameByte}
 use Rattle.form.specs.Tokens.{Token, name, sign, ended, tokensAfter, tokens}
 use Rattle.form.specs.Phrase
-use Rattle.form.specs.Phrase.{Phrase, Level}
+use Rattle.form.specs.Phrase.{Phrase, Level, opening, closing, bar, asterisk, plusSign, question}
 use Rattle.form.specs.Parse.{beginsItem}
 use Rattle.form.proofs.TokenScan.{by-test, nextIs, apart}
 
--- whether the token is an LF
+-- a test of signs, and whether the token is an LF
+abbrev pub signIs : (ℕ → Bool) → Token → Bool
+signIs f (name w) = false
+signIs f (sign b) = f b
+
 abbrev pub isLf : Token → Bool
-isLf (name w) = false
-isLf (sign b) = eqb lf b
+isLf = signIs (eqb lf)
 
 cond-append : (t : Bool) (x′ y′ z : List Token) {x y : List Token} → x ≡ x′ ++ z → y ≡ y′ ++ z → cond t x y ≡ cond t x′ y′ ++ z
 cond-append true x′ y′ z e f = e
@@ -38,21 +41,22 @@ tokens-lf (c ∷ v) (b ∷ l) =
     cond-append (isNameByte b) _ _ _ (tokens-lf (c ∷ v ++ (b ∷ [])) l)
     (ap (λ ts. name (c ∷ v) ∷ ts) (cond-append (eqb b space) _ _ _ h (ap (λ ts. sign b ∷ ts) h)))
 
--- no LF among bytes of names and spaces
-not-lf : (b : ℕ) → isNameByte b ≡ true → eqb lf b ≡ false
-not-lf b e = ne-eqb lf b (λ f. true≢false (sym e ∙ ap isNameByte (sym f)))
+-- a test that fails bytes of names and spaces finds among the tokens what it finds among the bytes
+module _ (f : ℕ → Bool) (no-name : (b : ℕ) → isNameByte b ≡ true → f b ≡ false) (no-space : f space ≡ false) where
+  apart-signs : (b : ℕ) (l : Bytes) → any (signIs f) (tokens l) ≡ any f l → any (signIs f) (apart b l) ≡ any f (b ∷ l)
+  apart-signs b l h = by-test (λ ts. any (signIs f) ts ≡ any f (b ∷ l)) (eqb b space) (λ e. rw (eqb-true b space e, no-space, h)) (λ _. rw h)
 
-apart-lines : (b : ℕ) (l : Bytes) → any isLf (tokens l) ≡ any (eqb lf) l → any isLf (apart b l) ≡ any (eqb lf) (b ∷ l)
-apart-lines b l h = by-test (λ ts. any isLf ts ≡ any (eqb lf) (b ∷ l)) (eqb b space) (λ e. rw (eqb-true b space e, h)) (λ _. rw h)
+  pub tokens-signs : (w l : Bytes) → any (signIs f) (tokensAfter w l) ≡ any f l
+  tokens-signs [] [] = refl
+  tokens-signs (c ∷ v) [] = refl
+  tokens-signs [] (b ∷ l) = by-test (λ ts. any (signIs f) ts ≡ any f (b ∷ l)) (isLower b)
+      (λ e. tokens-signs (b ∷ []) l ∙ rw (no-name b (ap (λ t. t || isDigit b) e))) (λ _. apart-signs b l (tokens-signs [] l))
+  tokens-signs (c ∷ v) (b ∷ l) = by-test (λ ts. any (signIs f) ts ≡ any f (b ∷ l)) (isNameByte b)
+      (λ e. tokens-signs (c ∷ v ++ (b ∷ [])) l ∙ rw (no-name b e)) (λ _. apart-signs b l (tokens-signs [] l))
 
 -- an LF among the tokens is one among the bytes
 pub tokens-lines : (w l : Bytes) → any isLf (tokensAfter w l) ≡ any (eqb lf) l
-tokens-lines [] [] = refl
-tokens-lines (c ∷ v) [] = refl
-tokens-lines [] (b ∷ l) = by-test (λ ts. any isLf ts ≡ any (eqb lf) (b ∷ l)) (isLower b)
-    (λ e. tokens-lines (b ∷ []) l ∙ rw (not-lf b (ap (λ t. t || isDigit b) e))) (λ _. apart-lines b l (tokens-lines [] l))
-tokens-lines (c ∷ v) (b ∷ l) = by-test (λ ts. any isLf ts ≡ any (eqb lf) (b ∷ l)) (isNameByte b)
-    (λ e. tokens-lines (c ∷ v ++ (b ∷ [])) l ∙ rw (not-lf b e)) (λ _. apart-lines b l (tokens-lines [] l))
+tokens-lines = tokens-signs (eqb lf) (λ b e. ne-eqb lf b (λ f. true≢false (sym e ∙ ap isNameByte (sym f)))) refl
 
 -- at most as many tokens as bytes, and one for a name begun before
 apart-length : (b : ℕ) (l : Bytes) → length (tokens l) ≤ length l → length (apart b l) ≤ suc (length l)
@@ -89,15 +93,21 @@ module _ {symbols : List Bytes} where
       go [] h = absurd (false≢true h)
       go (t ∷ ts) h = omega arith
 
+  -- a test that fails the signs of the grammar finds none
+  module _ (f : ℕ → Bool) (no : (f opening ≡ false) × (f closing ≡ false) × (f bar ≡ false)
+      × (f asterisk ≡ false) × (f plusSign ≡ false) × (f question ≡ false)) where
+    pub phrase-signs : {l : Level} {d : ℕ} {ts : List Token} {r : Regex} → Phrase symbols l d ts r → any (signIs f) ts ≡ false
+    phrase-signs (Phrase.symbol h) = refl
+    phrase-signs (Phrase.group {ts = ts} x) = rw (any-append (signIs f) ts _, phrase-signs x, no .0, no .1)
+    phrase-signs (Phrase.plain x) = phrase-signs x
+    phrase-signs (Phrase.starred {ts = ts} x) = rw (any-append (signIs f) ts _, phrase-signs x, no .3)
+    phrase-signs (Phrase.plussed {ts = ts} x) = rw (any-append (signIs f) ts _, phrase-signs x, no .4)
+    phrase-signs (Phrase.optional {ts = ts} x) = rw (any-append (signIs f) ts _, phrase-signs x, no .5)
+    phrase-signs (Phrase.last x) = phrase-signs x
+    phrase-signs (Phrase.then {ts = ts} x y) = rw (any-append (signIs f) ts _, phrase-signs x, phrase-signs y)
+    phrase-signs (Phrase.only x) = phrase-signs x
+    phrase-signs (Phrase.or {ts = ts} x y) = rw (any-append (signIs f) ts _, phrase-signs x, no .2, phrase-signs y)
+
   -- it lies within a line
   pub phrase-line : {l : Level} {d : ℕ} {ts : List Token} {r : Regex} → Phrase symbols l d ts r → any isLf ts ≡ false
-  phrase-line (Phrase.symbol h) = refl
-  phrase-line (Phrase.group {ts = ts} x) = rw (any-append isLf ts _, phrase-line x)
-  phrase-line (Phrase.plain x) = phrase-line x
-  phrase-line (Phrase.starred {ts = ts} x) = rw (any-append isLf ts _, phrase-line x)
-  phrase-line (Phrase.plussed {ts = ts} x) = rw (any-append isLf ts _, phrase-line x)
-  phrase-line (Phrase.optional {ts = ts} x) = rw (any-append isLf ts _, phrase-line x)
-  phrase-line (Phrase.last x) = phrase-line x
-  phrase-line (Phrase.then {ts = ts} x y) = rw (any-append isLf ts _, phrase-line x, phrase-line y)
-  phrase-line (Phrase.only x) = phrase-line x
-  phrase-line (Phrase.or {ts = ts} x y) = rw (any-append isLf ts _, phrase-line x, phrase-line y)
+  phrase-line = phrase-signs (eqb lf) (refl, refl, refl, refl, refl, refl)

@@ -1,5 +1,5 @@
 -- The theorems about texts. What the reader answers, in terms of the stated form: Accepted, over Shapes (between a text of the stated
--- form and its reading), Outcomes (what is known of any reading) and Faults (numbers and places of faults).
+-- form and its reading), Ascii (its bytes), Outcomes (what is known of any reading) and Faults (numbers and places of faults).
 -- The lines before the pattern: Header, over VarsLine, Arguments, SymbolLines and Declared, one line after the other, and Words,
 -- Names, Numerals, what single words say. The pattern: Pattern, over TokenScan (its tokens), Grammar (phrases), Course (what was read
 -- is a phrase), Complete (every phrase is read); Fuel (the bound on calls is no bound). Scans: laws of scanning.
@@ -21,4 +21,5 @@ pub mod Faults
 pub mod Fuel
 pub mod Outcomes
 pub mod Shapes
+pub mod Ascii
 pub mod Accepted

@@ -4,7 +4,7 @@ use mathlib.Core.Bool.{Bool, true, false, cond}
 use mathlib.Core.Logic.{_⊎_, ⊎-elim}
 use Prim.Native.Nat.{ℕ, _+_, _≤_, _<_}
 use native.Mathlib.Omega.{arith}
-use borrow.Author.Tests.{ltb-true, ltb-false, leb-true, eqb-true, eqb-false, eq-eqb, not-true}
+use borrow.Author.Tests.{le-ltb, ltb-true, ltb-false, leb-true, eqb-true, eqb-false, eq-eqb, not-true}
 use lib.Dec.{eqb, leb, ltb}
 use lib.ListN.{length}
 use Rattle.laws.proofs.Lists.{and-true-split}
@@ -116,3 +116,11 @@ module _ (s : Bytes) where
       refusal (fail 1 textLimit) (omega arith) (omega arith) (omega arith) (λ _. h) (λ k. absurd (omega arith)) λ w. absurd (omega arith))
       λ e. either (Known s) (eqb (l .step .fault) 0) (λ f. match-known (ltb-false _ _ e) (eqb-true _ _ f))
       λ f. stop (l .step) (lines-range s) (eqb-false _ _ f) (lines-place s) λ w. eqb-false _ _ f (w .lines)
+
+  -- where nothing is out of form, a refusal stands at the first token
+  pub words-first : Whole s → 7 ≤ readingOf s .number → readingOf s .place ≡ firstOf s
+  unfolding readingOf matchFrom
+  words-first w =
+      let First : Parsed → Type 0 = λ m. 7 ≤ outcome m .number → outcome m .place ≡ firstOf s in
+      rw (le-ltb textLimit (length s) (w .short), w .lines, w .behind, w .pattern)
+      (either First (nullable (patternOf s .tree)) (λ _ _. refl) λ _. either First (bindsAll s) (λ _ h. absurd (omega arith)) λ _ _. refl)

@@ -6,7 +6,7 @@ use mathlib.Core.List.{List, [], _∷_, _++_, map, append-assoc, append-cancel-r
 use Prim.Native.Nat.{ℕ, suc, _+_, _-_, _≤_}
 use native.Mathlib.Numerals.{add-one}
 use native.Mathlib.Omega.{arith}
-use lib.Dec.{eqb, leb, ltb}
+use lib.Dec.{eqb, leb}
 use lib.ListN.{length, take, drop, length-append, length-drop, take-append-drop, drop-of-length-le}
 use lib.Seq.{drop-cons, drop-drop, drop-append-le}
 use borrow.Author.Tests.{leb-true, leb-false, eq-eqb}
@@ -26,10 +26,6 @@ use Rattle.form.proofs.TokenScan.{by-test, by-equal, tokensAt, inside-o
 use Rattle.form.proofs.Grammar.{tokens-lf, tokens-lines, tokens-length, phrase-some, phrase-line}
 use Rattle.form.proofs.Course.{Sound, alternation-course}
 use Rattle.form.proofs.Complete.{phrase-read}
-
--- a text is a list of bytes
-abbrev pub isBytes : Bytes → Bool
-isBytes s = all (λ b. ltb b 256) s
 
 -- behind the last LF there is no token, and before it there is one
 last-place : (s m : Bytes) (q : ℕ) → s ≡ m ++ (lf ∷ []) → q + 1 ≤ length s → tokensAt s (q + 1) ≡ [] → q + 1 ≡ length s
@@ -52,7 +48,7 @@ last-read s m r a f x =
     let k = last-place s m q f (inside-of s q lf (v .0) refl) (v .2) in
     rw (x .2, v .0, eq-eqb (q + 1) (length s) k, k)
 
-module _ (s : Bytes) (short : length s ≤ textLimit) (bytes : isBytes s ≡ true) (symbols : List Span) (p : ℕ) (inside : p ≤ length s) where
+module _ (s : Bytes) (short : length s ≤ textLimit) (symbols : List Span) (p : ℕ) (inside : p ≤ length s) where
   -- the bytes w up to the last LF of the text
   pub record Written (r : Regex) : Type 0 where
     pub written : Bytes

@@ -13,12 +13,12 @@ use Rattle.laws.proofs.Lists.{all-append, and-true-split}
 use Rattle.pattern.specs.Regex.{Regex}
 use Rattle.form.specs.Text.{Bytes, space, lf, isName, matchWord, Declarations, header, text}
 use Rattle.form.specs.Form.{sameWord, distinct, symbolNames, Shape}
-use Rattle.form.specs.Scan.{at, pastEnd}
+use Rattle.form.specs.Scan.{at, pastEnd, run, isSpace, spacesEnd}
 use Rattle.form.specs.Lines.{bytesAt, linesOf}
 use Rattle.form.proofs.Header.{Header, tableOf, header-read, header-found, header-names}
-use Rattle.form.proofs.Pattern.{isBytes, Written, pattern-read, pattern-found}
+use Rattle.form.proofs.Pattern.{Written, pattern-read, pattern-found}
 use Rattle.form.proofs.Faults.{before-end}
-use Rattle.form.proofs.Outcomes.{patternOf, Whole}
+use Rattle.form.proofs.Outcomes.{patternOf, firstOf, Whole}
 
 -- of distinct names those behind are distinct
 distinct-behind : (v w : List Bytes) → distinct (v ++ w) ≡ true → distinct w ≡ true
@@ -31,6 +31,11 @@ at-rest h rest = getD-append-add h (matchWord ++ rest) 5 pastEnd
 
 drop-rest : (h rest : Bytes) → drop (length h + 5 + 1) (h ++ (matchWord ++ rest)) ≡ drop 1 rest
 drop-rest h rest = rw (add-assoc (length h) 5 1) (drop-append-add h (matchWord ++ rest) 6)
+
+-- the LF at a line's end is no space
+spaces-lf : (l : Bytes) → run isSpace (l ++ (lf ∷ [])) ≡ run isSpace l
+spaces-lf [] = refl
+spaces-lf (b ∷ l) = rw (spaces-lf l)
 
 begins : (b : ℕ) (l : Bytes) → b < pastEnd → at l 0 ≡ b → l ≡ b ∷ drop 1 l
 begins b [] h e = absurd (omega arith)
@@ -54,7 +59,7 @@ module _ (s : Bytes) (d : Declarations) (h : Header s d) where
   lines-names : map (bytesAt s) (linesOf s .table .symbols) ≡ symbolNames d
   lines-names = rw (header-read s d h) (header-names s d h .1)
 
-module _ (s : Bytes) (bytes : isBytes s ≡ true) where
+module _ (s : Bytes) where
   shape-header : (d : Declarations) (r : Regex) → Shape s d r → Header s d
   unfolding text
   shape-header d r f = record {
@@ -78,7 +83,7 @@ module _ (s : Bytes) (bytes : isBytes s ≡ true) where
       let h = shape-header d r f in
       let spaced : at s (linesOf s .step .place) ≡ space = lines-at s d h in
       let names = lines-names s d h in
-      let w : Written s (f .short) bytes (linesOf s .table .symbols) (linesOf s .step .place + 1) (inside spaced) r = record {
+      let w : Written s (f .short) (linesOf s .table .symbols) (linesOf s .step .place + 1) (inside spaced) r = record {
         written = f .written;
         oneLine = f .oneLine;
         text = lines-drop s d h;
@@ -86,7 +91,7 @@ module _ (s : Bytes) (bytes : isBytes s ≡ true) where
         occurrences = f .occurrences;
       } in
       let named = and-true-split (all isName (d .variables)) _ (rw all-append at (f .named)) .1 in
-      let read = pattern-read s _ bytes _ _ _ (rw names named) (rw names (distinct-behind (d .variables) _ (f .distinct))) r w in
+      let read = pattern-read s _ _ _ _ (rw names named) (rw names (distinct-behind (d .variables) _ (f .distinct))) r w in
       let lines = header-read s d h in
       record {
         header = h;
@@ -95,11 +100,19 @@ module _ (s : Bytes) (bytes : isBytes s ≡ true) where
         tree = ap (λ a. a .tree) read;
       }
 
+  -- the first token stands behind the lines, `match`, a space and the spaces that follow
+  pub shape-first : (d : Declarations) (r : Regex) (f : Shape s d r) → firstOf s ≡ length (header d) + 6 + run isSpace (f .written)
+  unfolding shape-header spacesEnd
+  shape-first d r f =
+      let h = shape-header d r f in
+      let e : linesOf s .step .place ≡ length (header d) + 5 = ap (λ l. l .step .place) (header-read s d h) in
+      omega (arith, ap (run isSpace) (lines-drop s d h) ∙ spaces-lf (f .written))
+
   pub whole-shape : Whole s → (d : Declarations) × Shape s d (patternOf s .tree)
   unfolding text
   whole-shape w =
       let (d, h) = header-found s (w .lines) in
-      let f = pattern-found s (w .short) bytes (linesOf s .table .symbols) (linesOf s .step .place + 1) (inside (w .behind)) (w .pattern) in
+      let f = pattern-found s (w .short) (linesOf s .table .symbols) (linesOf s .step .place + 1) (inside (w .behind)) (w .pattern) in
       let spaced = begins space (h .rest) (omega arith) (sym (lines-at s d h) ∙ w .behind) in
       let rest = spaced ∙ ap (λ l. space ∷ l) (sym (lines-drop s d h) ∙ f .text) in (
         d,

@@ -81,7 +81,7 @@ pub data Onward (r : Regex) : ℕ → List ℕ → Type 0 where
   stop : {p : ℕ} → Has p (ending r 1) → Onward r p []
   on : {p q : ℕ} {ps : List ℕ} → Has q (following r 1 p) → Onward r q ps → Onward r p (q ∷ ps)
 
--- "a path of positions that begins, follows step by step and ends spells it"
+-- a path of positions that begins, follows step by step and ends, and spells the word w
 pub record Spelling (r : Regex) (w : List ℕ) : Type 0 where
   pub at : ℕ
   pub rest : List ℕ
