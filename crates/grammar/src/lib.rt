@@ -137,7 +137,8 @@ fn closed(s: &[u8], a: Parsed) -> Parsed
 // Sequences divided by `|`.
 pub fn alternation(s: &[u8], t: Table, depth: usize, used: usize, p: usize) -> Parsed
     requires { ⌜ Readable (now s) t used p × (depth ≤ 16) ⌝ }
-    ensures { λ r. ⌜ r ≡ parsedOf (variablesOf (viewTable t .table)) used (Parse.alternationFrom (now (s .entry)) (viewTable t .symbols) (Parse.enough depth p + 3) depth used p) ⌝ }
+    ensures { λ r. ⌜ r ≡ parsedOf (variablesOf (viewTable t .table)) used (Parse.alternationFrom (now (s .entry)) (viewTable t .symbols)
+        (Parse.enough depth p + 3) depth used p) ⌝ }
 {
     let a = sequence(s, t, depth, used, p);
     if a.fault != 0 {
@@ -165,7 +166,8 @@ pub fn alternation(s: &[u8], t: Table, depth: usize, used: usize, p: usize) -> P
 // One or more items.
 fn sequence(s: &[u8], t: Table, depth: usize, used: usize, p: usize) -> Parsed
     requires { ⌜ Readable (now s) t used p × (depth ≤ 16) ⌝ }
-    ensures { λ r. ⌜ r ≡ parsedOf (variablesOf (viewTable t .table)) used (Parse.sequenceFrom (now (s .entry)) (viewTable t .symbols) (Parse.enough depth p + 2) depth used p) ⌝ }
+    ensures { λ r. ⌜ r ≡ parsedOf (variablesOf (viewTable t .table)) used (Parse.sequenceFrom (now (s .entry)) (viewTable t .symbols)
+        (Parse.enough depth p + 2) depth used p) ⌝ }
 {
     let o = atom(s, t, depth, used, p);
     let a = item(s, o);
@@ -202,7 +204,8 @@ fn begins_item(s: &[u8], p: usize) -> bool
 // A name or an alternation in parentheses.
 fn atom(s: &[u8], t: Table, depth: usize, used: usize, p: usize) -> Parsed
     requires { ⌜ Readable (now s) t used p × (depth ≤ 16) ⌝ }
-    ensures { λ r. ⌜ r ≡ parsedOf (variablesOf (viewTable t .table)) used (Parse.atomFrom (now (s .entry)) (viewTable t .symbols) (Parse.enough depth p + 1) depth used p) ⌝ }
+    ensures { λ r. ⌜ r ≡ parsedOf (variablesOf (viewTable t .table)) used (Parse.atomFrom (now (s .entry)) (viewTable t .symbols)
+        (Parse.enough depth p + 1) depth used p) ⌝ }
 {
     let q = text::spaces_end(s, p);
     let c = text::peek(s, q);

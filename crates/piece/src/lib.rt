@@ -100,7 +100,8 @@ pub fn literal(k: usize, a: u32, bound: u32) -> Piece
 // One fragment and the next behind it.
 pub fn sequence(x: Piece, y: Piece) -> Piece
     requires { ⌜ (x .size ≤ 31) × (y .size ≤ 31) ⌝ }
-    ensures { λ r. ⌜ ((vars : ℕ → ℕ) (a b : Regex) (k : ℕ) → x ≡ pieceOf vars a k → y ≡ pieceOf vars b (k + Positions.size a) → r ≡ pieceOf vars (Regex.cat a b) k) ⌝ }
+    ensures { λ r. ⌜ ((vars : ℕ → ℕ) (a b : Regex) (k : ℕ) → x ≡ pieceOf vars a k → y ≡ pieceOf vars b (k + Positions.size a)
+        → r ≡ pieceOf vars (Regex.cat a b) k) ⌝ }
 {
     let xf = x.follows;
     let yf = y.follows;
@@ -125,7 +126,8 @@ pub fn sequence(x: Piece, y: Piece) -> Piece
 // One fragment or the other.
 pub fn either(x: Piece, y: Piece) -> Piece
     requires { ⌜ (x .size ≤ 31) × (y .size ≤ 31) ⌝ }
-    ensures { λ r. ⌜ ((vars : ℕ → ℕ) (a b : Regex) (k : ℕ) → x ≡ pieceOf vars a k → y ≡ pieceOf vars b (k + Positions.size a) → r ≡ pieceOf vars (Regex.alt a b) k) ⌝ }
+    ensures { λ r. ⌜ ((vars : ℕ → ℕ) (a b : Regex) (k : ℕ) → x ≡ pieceOf vars a k → y ≡ pieceOf vars b (k + Positions.size a)
+        → r ≡ pieceOf vars (Regex.alt a b) k) ⌝ }
 {
     let xf = x.follows;
     let yf = y.follows;

@@ -180,8 +180,10 @@ ready-variable s t r c h x i =
 -- a table with one more symbol, as `with_symbol` makes it
 pub ready-symbol : (s : Bytes) (t : Table) → Ready s t → t .count < 16 → (x : Span) → inside (length s) x ≡ true
     → (y : Events.Symbol) → length (y .places) ≤ 4 → all (soundPlace (t .variables)) (y .places) ≡ true
-    → let u : Table = record { variables = t .variables; count = t .count + 1; names = set (t .names) (t .variables + t .count) (nameOf x); symbols = set (t .symbols) (t .count) (symbolOf y) } in
-    Ready s u × (viewTable u ≡ record { variables = viewTable t .variables; symbols = viewTable t .symbols ++ (x ∷ []); table = viewTable t .table ++ (y ∷ []) })
+    → let names = set (t .names) (t .variables + t .count) (nameOf x) in let symbols = set (t .symbols) (t .count) (symbolOf y) in
+    let u : Table = record { variables = t .variables; count = t .count + 1; names = names; symbols = symbols } in
+    Ready s u × (viewTable u
+    ≡ record { variables = viewTable t .variables; symbols = viewTable t .symbols ++ (x ∷ []); table = viewTable t .table ++ (y ∷ []) })
 unfolding tableOf
 ready-symbol s t r c x i y l d =
     let v = viewTable t in

@@ -63,7 +63,8 @@ pub fn no_table() -> Table
 
 // The number, counted from `from`, of the first name before `to` that is the word from p to e; to - from where none is.
 pub fn find(s: &[u8], names: [Name; 20], from: usize, to: usize, p: usize, e: usize) -> usize
-    requires { ⌜ (from ≤ to) × (to ≤ 20) × (p ≤ e) × (e ≤ length (now s)) × (all (inside (length (now s))) (map spanOf (take (to - from) (drop from names))) ≡ true) ⌝ }
+    requires { ⌜ (from ≤ to) × (to ≤ 20)
+        × (p ≤ e) × (e ≤ length (now s)) × (all (inside (length (now s))) (map spanOf (take (to - from) (drop from names))) ≡ true) ⌝ }
     ensures { λ r. ⌜ r ≡ indexOf (now (s .entry)) (map spanOf (take (to - from) (drop from names))) (part (now (s .entry)) p e) ⌝ }
 {
     let mut i = from;
@@ -92,7 +93,12 @@ pub fn with_variable(t: Table, n: Name) -> Table
 
 pub fn with_symbol(t: Table, n: Name, y: Symbol) -> Table
     requires { ⌜ (t .variables ≤ 4) × (t .count < 16) ⌝ }
-    ensures { λ r. ⌜ r ≡ record { variables = t .variables; count = t .count + 1; names = set (t .names) (t .variables + t .count) n; symbols = set (t .symbols) (t .count) y } ⌝ }
+    ensures { λ r. ⌜ r ≡ record {
+      variables = t .variables;
+      count = t .count + 1;
+      names = set (t .names) (t .variables + t .count) n;
+      symbols = set (t .symbols) (t .count) y;
+    } ⌝ }
 {
     let at = t.count;
     let place = t.variables + at;
