@@ -1,3 +1,4 @@
+-- `grammar::begins_item` meets its contract: a letter or an opening parenthesis, test by test.
 use borrow.Author.Needs.{needs}
 use Rattle.grammar.proofs.begins_item.Statement.{statement}
 use Rattle.grammar.proofs.begins_item.Tie as tie

@@ -1,3 +1,4 @@
+-- `grammar::closed` meets its contract: one return for each case of `Parse.closed`.
 use mathlib.Core.Path.{_∙_}
 use native.Mathlib.Omega.{arith}
 use borrow.Author.Needs.{needs}

@@ -1,3 +1,4 @@
+-- `grammar::failed` meets its contract: the fault with no fragment.
 use borrow.Author.Needs.{needs}
 use Rattle.grammar.proofs.failed.Statement.{statement}
 use Rattle.grammar.proofs.failed.Tie as tie

@@ -1,3 +1,4 @@
+-- `grammar::signed` meets its contract: each sign by its own function of `piece`.
 use borrow.Author.Needs.{needs}
 use borrow.Author.Tests.{eq-eqb, ne-eqb}
 use Rattle.grammar.proofs.signed.Statement.{statement}

@@ -1,3 +1,4 @@
+-- `grammar::unfit` meets its contract: 2 past the end, 6 elsewhere.
 use borrow.Author.Needs.{needs}
 use borrow.Author.Tests.{eq-eqb, ne-eqb}
 use Rattle.grammar.proofs.unfit.Statement.{statement}

@@ -1,3 +1,4 @@
+-- `lines::lines_from` meets its contract: one turn of `linesFrom`; the room for symbols falls.
 use mathlib.Core.Bool.{true}
 use mathlib.Core.Path.{_≡_, sym, _∙_}
 use Prim.Native.Nat.{ℕ, suc, _+_, _-_, _≤_, _<_}

@@ -1,3 +1,4 @@
+-- `lines::variables_from` meets its contract: one turn of `variablesFrom`; the room for variables falls.
 use mathlib.Core.Path.{_≡_, ap, _∙_}
 use mathlib.Core.List.{[], _∷_, _++_}
 use Prim.Native.Nat.{ℕ, suc, _+_, _-_, _≤_, _<_}

@@ -1,3 +1,4 @@
+-- `lines::argument_fault` meets its contract: the tests of `argumentFault`, one after the other.
 use mathlib.Core.Path.{_≡_}
 use mathlib.Core.Bool.{cond}
 use native.Mathlib.Omega.{arith}

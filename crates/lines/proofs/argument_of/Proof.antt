@@ -1,3 +1,4 @@
+-- `lines::argument_of` meets its contract: `_`, or the number of the variable found.
 use mathlib.Core.Path.{_≡_}
 use native.Mathlib.Omega.{arith}
 use borrow.Author.Needs.{needs}

@@ -1,3 +1,4 @@
+-- `lines::declare_fault` meets its contract: the tests of `declareFault`, one after the other.
 use mathlib.Core.Path.{_≡_}
 use mathlib.Core.Bool.{cond}
 use mathlib.Core.List.{map}

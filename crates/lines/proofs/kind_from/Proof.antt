@@ -1,3 +1,4 @@
+-- `lines::kind_from` meets its contract: KIND by `text::kind_of`, ARGS by `arguments_from`.
 use mathlib.Core.Path.{_≡_, ap, sym, _∙_}
 use mathlib.Core.List.{[]}
 use Prim.Native.Nat.{_≤_}

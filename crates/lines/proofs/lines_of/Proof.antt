@@ -1,3 +1,4 @@
+-- `lines::lines_of` meets its contract: the word `vars`, its line, then the others.
 use mathlib.Core.Path.{sym, _∙_}
 use Prim.Native.Nat.{zero-le}
 use borrow.Author.Needs.{needs}

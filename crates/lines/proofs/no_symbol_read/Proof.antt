@@ -1,3 +1,4 @@
+-- `lines::no_symbol_read` meets its contract: the empty symbol, coded.
 use borrow.Author.Needs.{needs}
 use Rattle.lines.proofs.no_symbol_read.Statement.{statement}
 use Rattle.lines.proofs.no_symbol_read.Tie as tie

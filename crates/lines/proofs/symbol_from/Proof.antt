@@ -1,3 +1,4 @@
+-- `lines::symbol_from` meets its contract: the name, then `kind_from`.
 use mathlib.Core.Path.{_≡_, ap, sym, _∙_}
 use mathlib.Core.List.{_++_}
 use Prim.Native.Nat.{_≤_}

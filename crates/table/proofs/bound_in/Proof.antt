@@ -1,3 +1,4 @@
+-- `table::bound_in` meets its contract: the mask of the places passed, joined with that of those ahead.
 use mathlib.Core.Path.{_≡_, sym, ap, _∙_}
 use mathlib.Core.Bool.{true}
 use mathlib.Core.List.{_∷_}

@@ -1,3 +1,4 @@
+-- `table::find` meets its contract: the index so far and the index among the names ahead.
 use mathlib.Core.Path.{_≡_, sym, ap, _∙_}
 use mathlib.Core.Bool.{true}
 use mathlib.Core.List.{_∷_}

@@ -1,3 +1,4 @@
+-- `table::no_symbol` meets its contract: the empty symbol, coded.
 use mathlib.Core.Path.{refl}
 use Rattle.laws.specs.Parts.{pad}
 use Rattle.table.specs.Tables.{symbolOf}

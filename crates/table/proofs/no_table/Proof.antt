@@ -1,3 +1,4 @@
+-- `table::no_table` meets its contract: the empty table, coded.
 use borrow.Author.Needs.{needs}
 use Rattle.laws.specs.Parts.{pad}
 use Rattle.table.specs.Tables.{tableOf}

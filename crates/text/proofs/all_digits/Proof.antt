@@ -1,3 +1,4 @@
+-- `text::all_digits` meets its contract: the digits passed and those ahead.
 use mathlib.Core.Path.{_≡_, refl, sym, ap, _∙_}
 use mathlib.Core.Bool.{_&&_}
 use Prim.Native.Nat.{_+_, _-_, _≤_}

@@ -1,3 +1,4 @@
+-- `text::digits_value` meets its contract: the value of the digits passed, carried on.
 use Prim.Native.Nat.{_-_, _≤_}
 use native.Mathlib.Omega.{arith}
 use borrow.Author.Needs.{needs}

@@ -1,3 +1,4 @@
+-- `text::is_digit` meets its contract: both bounds.
 use borrow.Author.Tests.{le-leb, lt-leb}
 use Rattle.text.proofs.is_digit.Statement.{statement}
 use Rattle.text.proofs.is_digit.Tie as tie

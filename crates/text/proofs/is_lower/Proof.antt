@@ -1,3 +1,4 @@
+-- `text::is_lower` meets its contract: both bounds.
 use borrow.Author.Tests.{le-leb, lt-leb}
 use Rattle.text.proofs.is_lower.Statement.{statement}
 use Rattle.text.proofs.is_lower.Tie as tie

@@ -1,3 +1,4 @@
+-- `text::is_name_byte` meets its contract: a letter or a digit.
 use borrow.Author.Needs.{needs}
 use Rattle.text.proofs.is_name_byte.Statement.{statement}
 use Rattle.text.proofs.is_name_byte.Tie as tie

@@ -1,3 +1,4 @@
+-- `text::is_word_byte` meets its contract: no space, no LF, not past the end.
 use mathlib.Core.Path.{_≡_, _∙_}
 use mathlib.Core.Logic.{⊎-elim}
 use borrow.Author.Tests.{eq-eqb, ne-eqb}

@@ -1,3 +1,4 @@
+-- `text::kind_of` meets its contract: one return for each case of `kindOf`.
 use mathlib.Core.Path.{_≡_, sym, _∙_}
 use mathlib.Core.Bool.{cond}
 use native.Mathlib.Omega.{arith}

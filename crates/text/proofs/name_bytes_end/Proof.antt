@@ -1,3 +1,4 @@
+-- `text::name_bytes_end` meets its contract: the run goes on or stops (Runs).
 use mathlib.Core.Path.{_≡_, refl, sym, ap, _∙_}
 use Prim.Native.Nat.{_+_, _-_}
 use native.Mathlib.Omega.{arith}

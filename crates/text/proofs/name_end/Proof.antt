@@ -1,3 +1,4 @@
+-- `text::name_end` meets its contract: a name begins with a letter.
 use borrow.Author.Needs.{needs}
 use Rattle.form.specs.Scan.{nameEnd}
 use Rattle.text.proofs.name_end.Statement.{statement}

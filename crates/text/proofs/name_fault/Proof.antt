@@ -1,3 +1,4 @@
+-- `text::name_fault` meets its contract: one return for each case of `nameFault`.
 use native.Mathlib.Omega.{arith}
 use borrow.Author.Needs.{needs}
 use borrow.Author.Tests.{eq-eqb, ne-eqb, le-leb, lt-leb}

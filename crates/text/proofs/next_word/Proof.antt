@@ -1,3 +1,4 @@
+-- `text::next_word` meets its contract: one return for each case of `nextWord`.
 use mathlib.Core.Logic.{⊎-elim}
 use native.Mathlib.Omega.{arith}
 use borrow.Author.Needs.{needs}

@@ -1,3 +1,4 @@
+-- `text::peek` meets its contract: inside the byte, past the end 256.
 use borrow.Author.Needs.{needs}
 use mathlib.Core.Path.{sym, _∙_}
 use Rattle.form.proofs.Scans.{at-end}

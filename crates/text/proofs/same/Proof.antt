@@ -1,3 +1,4 @@
+-- `text::same` meets its contract: equal sizes, then byte by byte (Parts).
 use mathlib.Core.Path.{_≡_, sym}
 use Prim.Native.Nat.{ℕ, _+_, _-_, _≤_, _<_}
 use native.Mathlib.Omega.{arith}

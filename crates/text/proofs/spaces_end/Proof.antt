@@ -1,3 +1,4 @@
+-- `text::spaces_end` meets its contract: the run goes on or stops (Runs).
 use mathlib.Core.Path.{_≡_, refl, sym, _∙_}
 use borrow.Author.Tests.{eq-eqb, ne-eqb}
 use Prim.Native.Nat.{_+_, _-_}

@@ -1,3 +1,4 @@
+-- `text::want_word` meets its contract: the LF in place of a word is a fault.
 use mathlib.Core.Path.{ap}
 use borrow.Author.Needs.{needs}
 use borrow.Author.Tests.{eq-eqb, ne-eqb}

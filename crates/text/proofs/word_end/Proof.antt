@@ -1,3 +1,4 @@
+-- `text::word_end` meets its contract: the run goes on or stops (Runs).
 use mathlib.Core.Path.{_≡_, refl, sym, ap, _∙_}
 use mathlib.Core.Bool.{Bool, not, _&&_, and-true}
 use Prim.Native.Nat.{_+_, _-_, _<_, ℕ}
