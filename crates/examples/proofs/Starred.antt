@@ -1,5 +1,6 @@
 -- Theorem `starred`: every starred roast of document 01, its text read and its events taken, comes out as document 01 has it, by
--- computation from the definitions that the contracts cite.
+-- computation from `readingOf` and the labels. The contract of `read` cites `reading`, whose number, place and book are those of
+-- `readingOf` by `answer-number`, `answer-place` and `fields` of the crate book (Bench).
 use mathlib.Core.Path.{_≡_, refl}
 use mathlib.Core.List.{map}
 use Rattle.laws.specs.Bits.{bit, join, meet, single}

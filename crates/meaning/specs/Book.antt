@@ -14,6 +14,7 @@ use Rattle.pattern.specs.Positions as Positions
 use Rattle.meaning.specs.Events.{Place, ignored, names, Symbol}
 use Rattle.meaning.specs.Meaning.{Tracematch, noSymbol}
 
+-- document 01, "Labels and room": the pattern as numbered positions and sets of them
 pub record Book : Type 0 where
   pub variables : ℕ
   pub symbols : List Symbol
@@ -43,15 +44,19 @@ bookOf tm =
     }
 
 module _ (b : Book) where
+  -- "positions 1 to 31": those that the book has
   abbrev pub positions : List ℕ
   positions = numbers 1 (length (b .occurrences))
 
+  -- "Position q … begins … a word"
   abbrev pub beginsAt : ℕ → Bool
   beginsAt p = bit p (b .begins)
 
+  -- "Position q … ends a word"
   abbrev pub endsAt : ℕ → Bool
   endsAt p = bit p (b .ends)
 
+  -- the positions that follow p, "one bit to a position"
   abbrev pub followers : ℕ → ℕ
   followers p = getD (b .follows) (p - 1) 0
 
@@ -63,6 +68,7 @@ module _ (b : Book) where
   abbrev pub goesOn : ℕ → Bool
   goesOn p = not (eqb (followers p) 0)
 
+  -- the symbol whose occurrence position p is
   abbrev pub symbolOf : ℕ → Symbol
   symbolOf p = getD (b .symbols) (getD (b .occurrences) (p - 1) 0) noSymbol
 
@@ -70,6 +76,7 @@ module _ (b : Book) where
 abbrev pub beginCount : Book → ℕ
 beginCount b = ones (b .begins)
 
+-- "… and its ending positions"
 abbrev pub endCount : Book → ℕ
 endCount b = ones (b .ends)
 
@@ -89,6 +96,7 @@ abbrev pub soundPlace : ℕ → Place → Bool
 soundPlace variables ignored = true
 soundPlace variables (names v) = ltb v variables
 
+-- a symbol with every number "in its declared range"
 unfoldable pub soundSymbol : ℕ → Symbol → Bool
 soundSymbol variables s =
     leb 1 (s .kind) && leb (s .kind) 255 && leb (length (s .places)) 4 && all (soundPlace variables) (s .places)

@@ -58,6 +58,7 @@ demandsOf (p ∷ ps) (x ∷ xs) = demandOf p x ++ demandsOf ps xs
 abbrev pub compatible : Demand → Demand → Bool
 compatible c d = not (eqb (c .variable) (d .variable)) || eqb (c .value) (d .value)
 
+-- no two demands are unequal on one variable
 abbrev pub consistent : List Demand → Bool
 consistent [] = true
 consistent (d ∷ ds) = all (compatible d) ds && consistent ds
@@ -74,6 +75,7 @@ Valuation = List ℕ
 unfoldable pub isValuation : ℕ → Valuation → Bool
 isValuation variables σ = eqb (length σ) variables && all word32 σ
 
+-- "variable equals argument", read for a valuation
 abbrev pub agrees : Valuation → Demand → Bool
 agrees σ d = eqb (getD σ (d .variable) 0) (d .value)
 

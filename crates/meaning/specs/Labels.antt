@@ -24,9 +24,11 @@ Disjunct = List Entry
 abbrev pub freeDisjunct : ℕ → Disjunct
 freeDisjunct variables = replicate variables (free [])
 
+-- what D says of variable v
 abbrev pub entryOf : Disjunct → ℕ → Entry
 entryOf D v = getD D v (free [])
 
+-- "leaves it free"
 abbrev pub isFree : Entry → Bool
 isFree (bound a) = false
 isFree (free xs) = true
@@ -36,10 +38,12 @@ abbrev pub valueKey : Entry → ℕ
 valueKey (bound a) = suc a
 valueKey (free xs) = 0
 
+-- the "excluded values"; a bound variable has none
 abbrev pub exclusions : Entry → List ℕ
 exclusions (bound a) = []
 exclusions (free xs) = xs
 
+-- the order of disjuncts at one position
 unfoldable pub compareDisjuncts : Disjunct → Disjunct → Ordering
 compareDisjuncts D E =
     andThen (lex compare (map valueKey D) (map valueKey E)) (lex (lex compare) (map exclusions D) (map exclusions E))
@@ -58,14 +62,17 @@ abbrev pub meetsAll : Disjunct → List Demand → Bool
 meetsAll D [] = true
 meetsAll D (d ∷ ds) = admits (entryOf D (d .variable)) (d .value) && meetsAll (bind D d) ds
 
+-- the new disjunct, bound to one demand after the other
 abbrev pub metAll : Disjunct → List Demand → Disjunct
 metAll D [] = D
 metAll D (d ∷ ds) = metAll (bind D d) ds
 
+-- the same for a constraint: met with a false one it is false
 abbrev pub meets : Disjunct → Constraint → Bool
 meets D never = false
 meets D (demands ds) = meetsAll D ds
 
+-- the disjunct that the meeting yields
 abbrev pub met : Disjunct → Constraint → Disjunct
 met D never = D
 met D (demands ds) = metAll D ds
@@ -75,6 +82,7 @@ abbrev pub excluding : Entry → ℕ → Entry
 excluding (bound a) x = bound a
 excluding (free xs) x = free (insert compare x xs)
 
+-- D "with c's value excluded there", for one variable of c
 abbrev pub exclude : Disjunct → Demand → Disjunct
 exclude D d = set D (d .variable) (excluding (entryOf D (d .variable)) (d .value))
 
@@ -89,6 +97,7 @@ skipOne (demands ds) D =
 unfoldable pub skipBy : Constraint → List Disjunct → List Disjunct
 skipBy c l = setOf compareDisjuncts (gather (skipOne c) l)
 
+-- "taken through all symbols in declaration order"
 abbrev pub skipThrough : List Constraint → List Disjunct → List Disjunct
 skipThrough [] l = l
 skipThrough (c ∷ cs) l = skipThrough cs (skipBy c l)
@@ -98,6 +107,7 @@ pub record Held : Type 0 where
   pub position : ℕ
   pub disjunct : Disjunct
 
+-- D in the label of position p
 abbrev pub heldAt : ℕ → Disjunct → Held
 heldAt p D = record { position = p; disjunct = D }
 

@@ -20,6 +20,7 @@ pub record Tracematch : Type 0 where
 abbrev pub noSymbol : Symbol
 noSymbol = record { kind = 0; places = [] }
 
+-- the same for events
 abbrev pub noEvent : Event
 noEvent = record { kind = 0; args = [] }
 

@@ -14,9 +14,11 @@ use Rattle.meaning.specs.Labels.{Entry, Disjunct, Held, exclusions, labe
 abbrev pub exclusionLimit : ℕ
 exclusionLimit = 6
 
+-- "all 128 disjunct places"
 abbrev pub heldLimit : ℕ
 heldLimit = 128
 
+-- no variable has "7 exclusions"
 abbrev pub fewExclusions : Disjunct → Bool
 fewExclusions D = all (λ x. leb (length (exclusions x)) exclusionLimit) D
 
@@ -29,6 +31,7 @@ abbrev pub skipRoom : List Constraint → List Disjunct → Bool
 skipRoom [] l = true
 skipRoom (c ∷ cs) l = let l′ = skipBy c l in setRoom l′ && skipRoom cs l′
 
+-- no room rule is broken
 unfoldable pub room : Book → List Held → Event → Bool
 room b held e =
     all (λ q. leb (length (stepSet b held e q)) heldLimit) (positions b)
@@ -40,6 +43,7 @@ room b held e =
 abbrev pub skippedBy : Book → List Held → Event → (p k : ℕ) → List Disjunct
 skippedBy b held e p k = skipThrough (take k (map (λ s. constraintOf s e) (b .symbols))) (labelOf held p)
 
+-- one constructor for each of the four rules
 pub data Broken (b : Book) (held : List Held) (e : Event) : Type 0 where
   stepSetOver : (q : ℕ) → List·Memᴰ q (positions b) → 128 < length (stepSet b held e q) → Broken b held e
   skipSetOver : (p k : ℕ) → List·Memᴰ p (positions b) → 1 ≤ k → k ≤ length (b .symbols) → 128 < length (skippedBy b held e p k) → Broken b held e

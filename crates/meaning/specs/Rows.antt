@@ -18,6 +18,7 @@ abbrev pub valueOf : Entry → ℕ
 valueOf (bound a) = a
 valueOf (free xs) = 0
 
+-- the row that a disjunct gives
 abbrev pub valuationOf : Disjunct → Valuation
 valuationOf D = map valueOf D
 

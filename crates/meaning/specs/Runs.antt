@@ -44,9 +44,11 @@ module _ {S R : Type 0} (step : S → Event → S) (give : S → Event → R) wh
 abbrev pub stateAfter : Tracematch → List Call → State
 stateAfter tm cs = run (next (bookOf tm)) fresh cs
 
+-- what is held then
 abbrev pub heldAfter : Tracematch → List Call → List Held
 heldAfter tm cs = run (newHeld (bookOf tm)) (fresh .held) cs
 
+-- the row lists, one for each accepted event
 abbrev pub rowLists : Tracematch → List Call → List (List Valuation)
 rowLists tm cs = given (newHeld (bookOf tm)) (rows (bookOf tm)) (fresh .held) cs
 
@@ -58,6 +60,7 @@ pub data OrderlyFrom (b : Book) : State → List Call → Type 0 where
       → OrderlyFrom b (next b s e) cs → OrderlyFrom b s (event e true ∷ cs)
   refuses : {s : State} {e : Event} {cs : List Call} → OrderlyFrom b s cs → OrderlyFrom b s (event e false ∷ cs)
 
+-- such a run from the fresh state
 abbrev pub Orderly : Book → List Call → Type 0
 Orderly b cs = OrderlyFrom b fresh cs
 

@@ -25,6 +25,7 @@ answers b held (e ∷ es) =
     let same = answers b held es in
     cond (room b held e) (accepted (rows b held e) ∷ more) (noRoom ∷ same)
 
+-- a roast: its tracematch, the events sent, the answers that document 01 gives
 pub record Case : Type 0 where
   pub tracematch : Tracematch
   pub events : List Event
