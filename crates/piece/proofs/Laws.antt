@@ -113,6 +113,16 @@ joinedOf a b = map (λ i. join (getD a i 0) (getD b i 0)) (numbers 0 31)
 unfoldable pub linkedOf : (follows : List ℕ) (ends begins : ℕ) → List ℕ
 linkedOf follows ends begins = map (λ i. join (getD follows i 0) (given (bit (i + 1) ends) begins)) (numbers 0 31)
 
+-- the contracts of `joined` and `linked`, with the list of 31 elements shut behind its name
+pub is-joined : (a b : List ℕ) {r : List ℕ} → r ≡ map (λ i. join (getD a i 0) (getD b i 0)) (numbers 0 31) → r ≡ joinedOf a b
+unfolding joinedOf
+is-joined a b e = e
+
+pub is-linked : (follows : List ℕ) (ends begins : ℕ) {r : List ℕ}
+    → r ≡ map (λ i. join (getD follows i 0) (given (bit (i + 1) ends) begins)) (numbers 0 31) → r ≡ linkedOf follows ends begins
+unfolding linkedOf
+is-linked follows ends begins e = e
+
 pub joined-places : (f g h : ℕ → ℕ) → ((p : ℕ) → join (f p) (g p) ≡ h p) → joinedOf (map f places) (map g places) ≡ map h places
 unfolding joinedOf
 joined-places f g h e = by-position h 31 _ (λ i m. ap₂ join (getD-numbers f 1 31 i 0 m) (getD-numbers g 1 31 i 0 m) ∙ e (1 + i))

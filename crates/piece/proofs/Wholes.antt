@@ -1,6 +1,6 @@
 -- The piece that each function makes of pieces, and that it is the fragment of the larger expression.
 use mathlib.Core.Path.{_≡_, refl, ap, ap₂, _∙_}
-use mathlib.Core.Bool.{true, _&&_, _||_}
+use mathlib.Core.Bool.{Bool, true, _&&_, _||_}
 use mathlib.Core.List.{List, map}
 use Prim.Native.Nat.{ℕ, _+_}
 use Rattle.laws.specs.Bits.{join, meet}
@@ -21,6 +21,23 @@ sequenceOf x y =
       symbols = joinedOf (x .symbols) (y .symbols);
       follows = linkedOf (joinedOf (x .follows) (y .follows)) (x .ends) (y .begins);
     }
+
+-- the record that `sequence` makes of what its calls return. The rewriting is done here, where the arrays are variables: in the
+-- function's proof it takes 1 GB.
+pub sequence-made : (x y : Piece) {empty : Bool} {begins ends : ℕ} {symbols both follows : List ℕ} → empty ≡ (x .empty && y .empty)
+    → begins ≡ given (x .empty) (y .begins) → ends ≡ given (y .empty) (x .ends) → symbols ≡ joinedOf (x .symbols) (y .symbols)
+    → both ≡ joinedOf (x .follows) (y .follows) → follows ≡ linkedOf both (x .ends) (y .begins)
+    → record {
+      size = x .size + y .size;
+      empty = empty;
+      begins = join (x .begins) begins;
+      ends = join ends (y .ends);
+      bound = join (x .bound) (y .bound);
+      symbols = symbols;
+      follows = follows;
+    } ≡ sequenceOf x y
+unfolding sequenceOf
+sequence-made x y e b n s j f = rw (f, j, s, n, b, e)
 
 unfoldable pub eitherOf : (x y : Piece) → Piece
 eitherOf x y =

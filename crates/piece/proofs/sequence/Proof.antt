@@ -4,8 +4,8 @@ use mathlib.Core.Bool.{_&&_}
 use mathlib.Core.Logic.{⊎-elim}
 use borrow.Author.Needs.{needs}
 use Rattle.laws.specs.Bits.{join}
-use Rattle.piece.proofs.Laws.{joinedOf, linkedOf}
-use Rattle.piece.proofs.Wholes.{sequenceOf, sequence-whole}
+use Rattle.piece.proofs.Laws.{is-joined, is-linked}
+use Rattle.piece.proofs.Wholes.{sequenceOf, sequence-made, sequence-whole}
 use Rattle.piece.proofs.sequence.Statement.{statement}
 use Rattle.piece.proofs.sequence.Tie as tie
 
@@ -28,20 +28,15 @@ add-t25 : tie.Need-add-t25
 add-t25 c = search needs
 
 returns : tie.Need-returns
-unfolding sequenceOf joinedOf linkedOf join
+unfolding join
 returns c vars a b k ex ey =
     let d = c .before .before .before .before in
     let s = d .before .before .before .before .before .before .args in
     let t : c .if1 .t27 ≡ (s .x .empty && s .y .empty) =
     ⊎-elim (λ w. rw (w .0 .taken) (w .1)) (λ w. rw (w .0 .left) (w .1 ∙ w .0 .left)) (c .if1 .came) in
-    rw (
-      t,
-      c .before .before .linked .ensures,
-      c .before .joined2 .ensures,
-      c .before .before .before .joined .ensures,
-      d .given2 .ensures,
-      d .before .given .ensures,
-    ) (ap₂ sequenceOf ex ey ∙ sequence-whole vars a b k)
+    sequence-made (s .x) (s .y) t (d .before .given .ensures) (d .given2 .ensures) (is-joined _ _ (c .before .joined2 .ensures))
+    (is-joined _ _ (c .before .before .before .joined .ensures)) (is-linked _ _ _ (c .before .before .linked .ensures))
+    ∙ ap₂ sequenceOf ex ey ∙ sequence-whole vars a b k
 
 pub sequence-spec : {M : Type 1} → statement M
 sequence-spec =
