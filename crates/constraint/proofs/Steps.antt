@@ -1,0 +1,214 @@
+-- What the tests of the code say, and one turn of each loop: demands gathered place by place, compared with those behind them,
+-- and symbols taken one by one. For the proofs of the functions.
+use mathlib.Core.Path.{_≡_, refl, sym, ap, ap₂, _∙_}
+use mathlib.Core.Bool.{Bool, true, false, cond, not, _&&_, _||_, or-true}
+use mathlib.Core.List.{List, [], _∷_, _++_, map, append-nil, append-assoc, map-append}
+use Prim.Native.Nat.{ℕ, suc, _+_, _≤_, _<_}
+use native.Mathlib.Numerals.{add-one}
+use native.Mathlib.Nat.{sub-zero}
+use native.Mathlib.Decide.{ℕ-discrete}
+use native.Mathlib.Omega.{arith}
+use borrow.Author.Tests.{leb-true, eqb-true, eqb-false, eq-eqb, ne-eqb, not-true, not-false}
+use lib.Dec.{eqb, leb, ltb}
+use lib.ListN.{length, take, drop, getD, set, length-map, length-set, drop-of-length-le}
+use lib.Seq.{length-take-le, drop-cons, take-suc, take-suc-set, getD-set-same, getD-set-other, getD-take, slice, slice-cons}
+use Rattle.laws.specs.Lists.{all}
+use Rattle.laws.proofs.Lists.{and-true-split, all-at, mem-getD}
+use Rattle.meaning.specs.Events as Events
+use Rattle.meaning.specs.Book.{soundPlace}
+use Rattle.table.specs.declared.Place.{Place}
+use Rattle.table.specs.declared.Symbol.{Symbol}
+use Rattle.table.specs.Tables.{viewPlace, viewSymbol}
+use Rattle.table.proofs.Spans.{ahead, ahead-none, ahead-cons}
+use Rattle.record.specs.declared.Event.{Event}
+use Rattle.record.specs.Records.{viewEvent}
+use Rattle.constraint.specs.declared.Demand.{Demand}
+use Rattle.constraint.specs.declared.Constraint.{Constraint}
+use Rattle.constraint.specs.Constraints.{viewDemand, demandsIn, viewConstraint, noDemand, noConstraint, Ready}
+use Rattle.constraint.proofs.Views.{emptyDemand, demands-length, demand-at}
+
+-- the length of an array is that of what its elements are coded as
+pub length-mapped : {A B : Type 0} (f : A → B) (l : List A) {n : ℕ} → length (map f l) ≡ n → length l ≡ n
+length-mapped f l h = sym (length-map l f) ∙ h
+
+-- the counts are the lengths of what is counted
+pub matches-counts : (y : Symbol) (e : Event) → length (y .places) ≡ 4 → y .count ≤ 4 → length (e .args) ≡ 4 → e .count ≤ 4
+    → Events.matches (viewSymbol y) (viewEvent e) ≡ (eqb (y .kind) (e .kind) && eqb (y .count) (e .count))
+unfolding Events.matches viewSymbol viewEvent
+matches-counts y e l h m k =
+    let t = take (y .count) (y .places) in
+    let a : length (map viewPlace t) ≡ y .count = length-map t viewPlace ∙ length-take-le (y .count) (y .places) (omega arith) in
+    let b : length (take (e .count) (e .args)) ≡ e .count = length-take-le (e .count) (e .args) (omega arith) in
+    rw (a, b)
+
+-- sound places demand something only of the variables that there are
+demand-within : (k : ℕ) (p : Events.Place) (x : ℕ) (r : List Events.Demand) → soundPlace k p ≡ true → all (λ d. ltb (d .variable) k) r ≡ true
+    → all (λ d. ltb (d .variable) k) (Events.demandOf p x ++ r) ≡ true
+demand-within k Events.Place.ignored x r s h = h
+demand-within k (Events.Place.names v) x r s h = ap₂ _&&_ s h
+
+demands-within : (k : ℕ) (ps : List Events.Place) (xs : List ℕ) → all (soundPlace k) ps ≡ true
+    → all (λ d. ltb (d .variable) k) (Events.demandsOf ps xs) ≡ true
+demands-within k [] xs h = refl
+demands-within k (p ∷ ps) [] h = refl
+demands-within k (p ∷ ps) (x ∷ xs) h =
+    let s = and-true-split (soundPlace k p) (all (soundPlace k) ps) h in
+    demand-within k p x (Events.demandsOf ps xs) (s .0) (demands-within k ps xs (s .1))
+
+-- what the tests of the code say of two demands
+pub unequal : (d x : Events.Demand) → x .variable ≡ d .variable → not (eqb (x .value) (d .value)) ≡ true → Events.compatible d x ≡ false
+unequal d x e n =
+    let v = eqb-false (x .value) (d .value) (not-true _ n) in
+    rw (eq-eqb (d .variable) (x .variable) (sym e), ne-eqb (d .value) (x .value) (λ h. v (sym h)))
+
+pub equal : (d x : Events.Demand) → not (eqb (x .value) (d .value)) ≡ false → Events.compatible d x ≡ true
+equal d x n =
+    let v = eqb-true (x .value) (d .value) (not-false _ n) in
+    ap (λ (b : Bool). not (eqb (d .variable) (x .variable)) || b) (eq-eqb (d .value) (x .value) (sym v)) ∙ or-true (not (eqb (d .variable) (x .variable)))
+
+pub apart : (d x : Events.Demand) → (x .variable ≡ d .variable → ⊥) → Events.compatible d x ≡ true
+apart d x n = ap (λ (b : Bool). not b || eqb (d .value) (x .value)) (ne-eqb (d .variable) (x .variable) (λ h. n (sym h)))
+
+-- whether d agrees with each demand from number j on
+abbrev pub agreesFrom : Constraint → Events.Demand → ℕ → Bool
+agreesFrom c d j = all (Events.compatible d) (drop j (demandsIn c))
+
+module _ (c : Constraint) (l : length (c .demands) ≡ 4) (few : c .count ≤ 4) where
+  -- the demands from number i on, by the first of them
+  drop-first : (i : ℕ) → i < c .count → drop i (demandsIn c) ≡ getD (demandsIn c) i noDemand ∷ drop (suc i) (demandsIn c)
+  drop-first i h = let n = demands-length c l few in drop-cons (demandsIn c) i noDemand (omega arith)
+
+  drop-none : (i : ℕ) → c .count ≤ i → drop i (demandsIn c) ≡ []
+  drop-none i h =
+      let n = demands-length c l few in
+      let k : length (demandsIn c) ≤ i = omega arith in
+      drop-of-length-le (demandsIn c) k
+
+  pub agrees-next : (d : Events.Demand) (j : ℕ) (b : Bool) → j < c .count
+      → Events.compatible d (viewDemand (getD (c .demands) j emptyDemand)) ≡ b → agreesFrom c d j ≡ (b && agreesFrom c d (j + 1))
+  agrees-next d j b h e =
+      ap (all (Events.compatible d)) (drop-first j h)
+      ∙ ap₂ _&&_ (ap (Events.compatible d) (demand-at c l few j h) ∙ e) (ap (agreesFrom c d) (sym (add-one j)))
+
+  pub agrees-none : (d : Events.Demand) (j : ℕ) → c .count ≤ j → agreesFrom c d j ≡ true
+  agrees-none d j h = ap (all (Events.compatible d)) (drop-none j h)
+
+  -- whether the demands from number i on are consistent, by the comparison of the first with the others
+  pub consistent-next : (i : ℕ) {b : Bool} → i < c .count → agreesFrom c (getD (demandsIn c) i noDemand) (suc i) ≡ b
+      → Events.consistent (drop i (demandsIn c)) ≡ (b && Events.consistent (drop (i + 1) (demandsIn c)))
+  consistent-next i h e =
+      ap Events.consistent (drop-first i h) ∙ ap₂ _&&_ e (ap (λ k. Events.consistent (drop k (demandsIn c))) (sym (add-one i)))
+
+  pub consistent-none : (i : ℕ) → c .count ≤ i → Events.consistent (drop i (demandsIn c)) ≡ true
+  consistent-none i h = ap Events.consistent (drop-none i h)
+
+-- what the tag of a place says
+named : (p : Place) → p .tag ≡ 1 → viewPlace p ≡ Events.Place.names (p .number)
+named p h = ap (λ b. cond b (Events.Place.names (p .number)) Events.Place.ignored) (eq-eqb (p .tag) 1 h)
+
+unnamed : (p : Place) → (p .tag ≡ 1 → ⊥) → viewPlace p ≡ Events.Place.ignored
+unnamed p h = ap (λ b. cond b (Events.Place.names (p .number)) Events.Place.ignored) (ne-eqb (p .tag) 1 h)
+
+-- the place number i of a symbol
+abbrev pub placeAt : Symbol → ℕ → Place
+placeAt y i = getD (y .places) i (record { tag = 0; number = 0 })
+
+-- what the counted places from number i on demand
+abbrev pub restOf : Symbol → Event → ℕ → List Events.Demand
+restOf y e i = Events.demandsOf (ahead viewPlace (y .places) i (y .count)) (slice i (y .count) (e .args))
+
+-- the first m of the demands l are those of the first i places
+pub record Gathered (y : Symbol) (e : Event) (m i : ℕ) (l : List Demand) : Type 0 where
+  pub few : m ≤ i
+  pub long : length l ≡ 4
+  pub whole : map viewDemand (take m l) ++ restOf y e i ≡ Events.demandsOf (viewSymbol y .places) (viewEvent e .args)
+
+module _ (y : Symbol) (e : Event) (few : y .count ≤ 4) where
+  pub gathered-none : {l : List Demand} → e .count ≡ y .count → length l ≡ 4 → Gathered y e 0 0 l
+  unfolding viewSymbol viewEvent
+  gathered-none h k = record { few = omega arith; long = k; whole = rw (sub-zero, h) }
+
+  module _ {m i : ℕ} {l : List Demand} (h : i < y .count) (k : length (y .places) ≡ 4) (j : length (e .args) ≡ 4) (g : Gathered y e m i l) where
+    rest-next : (p : Events.Place) → viewPlace (placeAt y i) ≡ p → restOf y e i ≡ Events.demandOf p (getD (e .args) i 0) ++ restOf y e (i + 1)
+    rest-next p q =
+        let a = ahead-cons viewPlace (y .places) i (y .count) (record { tag = 0; number = 0 }) h (omega arith) in
+        let b = slice-cons i (y .count) (e .args) 0 h (omega arith) in
+        rw (a, b, q, add-one i)
+
+    pub gathered-skip : (placeAt y i .tag ≡ 1 → ⊥) → Gathered y e m (i + 1) l
+    gathered-skip n =
+        record {
+          few = omega arith;
+          long = g .long;
+          whole = ap (λ r. map viewDemand (take m l) ++ r) (sym (rest-next _ (unnamed _ n))) ∙ g .whole;
+        }
+
+    pub gathered-more : placeAt y i .tag ≡ 1
+        → Gathered y e (m + 1) (i + 1) (set l m (record { variable = placeAt y i .number; value = getD (e .args) i 0 }))
+    gathered-more n =
+        let d : Demand = record { variable = placeAt y i .number; value = getD (e .args) i 0 } in
+        let a : map viewDemand (take (m + 1) (set l m d)) ≡ map viewDemand (take m l) ++ (viewDemand d ∷ []) =
+        rw (add-one m, take-suc-set l m d (omega arith), map-append) in
+        record {
+          few = omega arith;
+          long = length-set l m d ∙ g .long;
+          whole = rw (a, append-assoc) (ap (λ r. map viewDemand (take m l) ++ r) (sym (rest-next _ (named _ n))) ∙ g .whole);
+        }
+
+  -- when no place is left the demands are gathered, and they are ready where the places are sound
+  pub gathered-all : (b : Bool) {m i : ℕ} {l : List Demand} → all (soundPlace 4) (viewSymbol y .places) ≡ true → i ≤ y .count → y .count ≤ i
+      → Gathered y e m i l → let r : Constraint = record { ok = b; count = m; demands = l } in
+      (demandsIn r ≡ Events.demandsOf (viewSymbol y .places) (viewEvent e .args)) × Ready r
+  unfolding demandsIn
+  gathered-all b {m} {i} {l} s u v g =
+      let z : restOf y e i ≡ [] = rw (ahead-none viewPlace (y .places) i (y .count) v) in
+      let w : map viewDemand (take m l) ≡ Events.demandsOf (viewSymbol y .places) (viewEvent e .args) =
+      sym (append-nil _) ∙ ap (λ r. map viewDemand (take m l) ++ r) (sym z) ∙ g .whole in
+      (w, record { few = omega arith; within = rw w (demands-within 4 (viewSymbol y .places) (viewEvent e .args) s) })
+
+-- the constraint, by the answers of both tests
+pub constraint-by : (s : Events.Symbol) (e : Events.Event) {a b : Bool} → Events.matches s e ≡ a → Events.consistent (Events.demandsOf (s .places) (e .args)) ≡ b
+    → Events.constraintOf s e ≡ cond (a && b) (Events.Constraint.demands (Events.demandsOf (s .places) (e .args))) Events.Constraint.never
+unfolding Events.constraintOf
+constraint-by s e h k =
+    ap₂ (λ a b. cond (a && b) (Events.Constraint.demands (Events.demandsOf (s .places) (e .args))) Events.Constraint.never) h k
+
+-- the symbol number i of a table
+abbrev pub symbolAt : List Symbol → ℕ → Symbol
+symbolAt table i = getD table i (record { kind = 0; count = 0; places = [] })
+
+-- it is within the limits where the first n are
+pub within-at : (table : List Symbol) (n i : ℕ) → n ≤ length table → i < n
+    → all (λ y. leb (y .count) 4 && all (soundPlace 4) (viewSymbol y .places)) (take n table) ≡ true
+    → (symbolAt table i .count ≤ 4) × (all (soundPlace 4) (viewSymbol (symbolAt table i) .places) ≡ true)
+within-at table n i l h a =
+    let f : Symbol → Bool = λ y. leb (y .count) 4 && all (soundPlace 4) (viewSymbol y .places) in
+    let d : Symbol = record { kind = 0; count = 0; places = [] } in
+    let m = mem-getD (take n table) i d (omega (arith, length-take-le n table l)) in
+    let s = and-true-split _ _ (sym (ap f (getD-take n table i d h)) ∙ all-at f a m) in
+    (leb-true _ 4 (s .0), s .1)
+
+-- the first i elements of an array are the constraints of the first i symbols of a table
+pub record Filled (e : Event) (table : List Symbol) (i : ℕ) (r : List Constraint) : Type 0 where
+  pub long : length r ≡ 16
+  pub views : map viewConstraint (take i r) ≡ map (λ y. Events.constraintOf (viewSymbol y) (viewEvent e)) (take i table)
+  pub ready : (k : ℕ) → k < i → Ready (getD r k noConstraint)
+
+module _ {e : Event} {table : List Symbol} {r : List Constraint} where
+  pub filled-none : length r ≡ 16 → Filled e table 0 r
+  filled-none h = record { long = h; views = refl; ready = λ k l. absurd (omega arith) }
+
+  pub filled-more : {i : ℕ} {x : Constraint} → i < 16 → i < length table
+      → viewConstraint x ≡ Events.constraintOf (viewSymbol (symbolAt table i)) (viewEvent e) → Ready x → Filled e table i r → Filled e table (i + 1) (set r i x)
+  filled-more {i} {x} h k v y d =
+      let l = d .long in
+      let t = take-suc table i (record { kind = 0; count = 0; places = [] }) k in
+      record {
+        long = length-set r i x ∙ l;
+        views = rw (add-one i, take-suc-set r i x (omega arith), t, map-append viewConstraint (take i r), map-append, d .views, v);
+        ready = λ k j. go k j (ℕ-discrete k i);
+      }
+    where
+      go : (k : ℕ) → k < i + 1 → Dec (k ≡ i) → Ready (getD (set r i x) k noConstraint)
+      go k j (yes q) = let l = d .long in rw (q, getD-set-same r i x noConstraint (omega arith)) y
+      go k j (no q) = rw (getD-set-other r i k x noConstraint q) (d .ready k (omega arith))

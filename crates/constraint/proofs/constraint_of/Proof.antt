@@ -1,0 +1,73 @@
+-- `constraint::constraint_of` meets its contract: both tests, each a branch.
+use mathlib.Core.Path.{_≡_, refl, sym, ap, _∙_}
+use mathlib.Core.Bool.{true}
+use mathlib.Core.Logic.{⊎-elim}
+use borrow.Author.Needs.{needs}
+use borrow.Author.Tests.{eqb-true}
+use lib.Dec.{eqb}
+use lib.ListN.{length}
+use Rattle.laws.proofs.Lists.{and-true-split}
+use Rattle.meaning.specs.Events as Events
+use Rattle.table.specs.Tables.{viewSymbol}
+use Rattle.record.specs.Records.{viewEvent}
+use Rattle.constraint.proofs.Views.{demands-view}
+use Rattle.constraint.proofs.Steps.{length-mapped, matches-counts, constraint-by}
+use Rattle.constraint.proofs.constraint_of.Statement.{statement}
+use Rattle.constraint.proofs.constraint_of.Tie as tie
+
+-- a symbol that matches has as many places as the event has arguments
+same-count : (c : tie.Start) → Events.matches (viewSymbol (c .args .y)) (viewEvent (c .args .e)) ≡ true → c .args .e .count ≡ c .args .y .count
+same-count c h =
+    let y = c .args .y in
+    let e = c .args .e in
+    let l : length (y .places) ≡ 4 = search (needs, length-mapped) in
+    let m : length (e .args) ≡ 4 = search (needs, length-mapped) in
+    sym (eqb-true (y .count) (e .count) (and-true-split (eqb (y .kind) (e .kind)) _ (sym (matches-counts y e l (c .pre .0) m (c .pre .1)) ∙ h) .1))
+
+matches-requires : tie.Need-matches-requires
+matches-requires c κs = search needs
+
+demands-requires : tie.Need-demands-requires
+demands-requires c κs =
+    let s = c .before .before in
+    (s .pre .0, same-count s (sym (c .before .matches .ensures) ∙ c .if1 .taken), s .pre .2)
+
+consistent-requires : tie.Need-consistent-requires
+consistent-requires c κs = search needs
+
+returns : tie.Need-returns
+returns c =
+    let d = c .before .before .demands in
+    let m = c .before .before .before in
+    let a = m .before .before .args in
+    let same = d .ensures .0 in
+    let e = ap Events.consistent (sym same) ∙ sym (c .before .consistent .ensures) ∙ c .if2 .taken in
+    let h = constraint-by (viewSymbol (a .y)) (viewEvent (a .e)) (sym (m .before .matches .ensures) ∙ m .if1 .taken) e in
+    (demands-view (d .result) (d .ensures .1) ∙ ap Events.Constraint.demands same ∙ sym h, d .ensures .2)
+
+never-requires : tie.Need-never-requires
+never-requires c κs = search needs
+
+returns-2 : tie.Need-returns-2
+returns-2 c =
+    let n = c .never .ensures in
+    let m = c .before .before .matches .ensures in
+    let a = c .before .before .before .args in
+    let y = viewSymbol (a .y) in
+    let e = viewEvent (a .e) in
+    let h : Events.constraintOf y e ≡ Events.Constraint.never =
+    ⊎-elim
+    (λ w. constraint-by y e (sym m ∙ w .0 .taken) (ap Events.consistent (sym (w .1 .ensures .0)) ∙ sym (w .2 .ensures) ∙ w .3 .left))
+    (λ w. constraint-by y e (sym m ∙ w .left) refl) (c .before .if1 .came) in
+    (n .0 ∙ sym h, n .1)
+
+pub constraint-of-spec : {M : Type 1} → statement M
+constraint-of-spec =
+    tie.close
+    (tie.spec
+    matches-requires
+    demands-requires
+    consistent-requires
+    returns
+    never-requires
+    returns-2)

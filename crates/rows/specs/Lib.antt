@@ -1,0 +1,2 @@
+-- Valuations in lent words.
+pub mod Valuations

@@ -1,0 +1,2 @@
+-- The tally of document 01.
+pub mod Tallies

@@ -1,0 +1,4 @@
+-- Laws of the work sets.
+pub mod Picks
+pub mod WideDisjuncts
+pub mod Wide
