@@ -1,0 +1,2 @@
+-- The disjunct of the code against the plain one of the crate meaning.
+pub mod Disjuncts

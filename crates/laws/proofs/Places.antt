@@ -1,0 +1,190 @@
+-- Laws of sets that code keeps in arrays: lists by their elements, neighbouring elements written over, one list written behind
+-- another, the place of an element looked for from the end, the elements from a place on moved up by one, and insertions under a cap.
+use mathlib.Core.Path.{_≡_, refl, sym, ap, ap₂, _∙_}
+use mathlib.Core.Bool.{Bool, true, false, cond}
+use mathlib.Core.List.{List, [], _∷_, _++_, map, append-assoc, append-nil, List·Memᴰ, List·Memᴰ·head, List·Memᴰ·tail, Memᴰ·append-right}
+use mathlib.Core.Logic.{_⊎_, inl, inr, ⊎-elim}
+use Prim.Native.Nat.{ℕ, zero, suc, _+_, _≤_, _<_, Ordering, Ordering·lt, Ordering·eq, Ordering·gt}
+use native.Mathlib.Nat.{zero-add}
+use native.Mathlib.Omega.{arith}
+use lib.ListN.{length, take, drop, getD, set, length-map, length-set, length-take, take-append-drop, drop-of-length-le}
+use lib.Seq.{sets, ext-getD, take-suc, drop-cons, split-at, drop-length, take-length, append-snoc, take-take}
+use lib.Seq.{getD-set-same, getD-set-other, getD-take, take-set-le, drop-set-lt, take-set-lt, take-suc-set, set-split}
+use lib.Dec.{leb}
+use borrow.Author.Tests.{leb-false, le-leb, lt-leb}
+use Rattle.laws.specs.Lists.{numbers}
+use Rattle.laws.specs.Order.{IsOrder, isLess, flip, rising, ascending}
+use Rattle.laws.specs.Sets.{put, insert, insertAll, full, grown, within}
+use Rattle.laws.proofs.Lists.{and-true-split, length-numbers, getD-numbers}
+use Rattle.laws.proofs.Sets.{rising-before, length-insertAll}
+
+module _ {A : Type 0} where
+  -- a map over the first n numbers, element by element
+  pub length-of : (f : ℕ → A) (n : ℕ) → length (map f (numbers 0 n)) ≡ n
+  length-of f n = length-map (numbers 0 n) f ∙ length-numbers 0 n
+
+  pub getD-of : (f : ℕ → A) (n i : ℕ) (d : A) → i < n → getD (map f (numbers 0 n)) i d ≡ f i
+  getD-of f n i d h = getD-numbers f 0 n i d h ∙ ap f (zero-add i)
+
+  pub maps-agree : (f g : ℕ → A) (i n : ℕ) → ((k : ℕ) → i ≤ k → k < i + n → f k ≡ g k) → map f (numbers i n) ≡ map g (numbers i n)
+  maps-agree f g i zero h = refl
+  maps-agree f g i (suc n) h = ap₂ _∷_ (h i (omega arith) (omega arith)) (maps-agree f g (suc i) n (λ k a b. h k (omega arith) (omega arith)))
+
+  -- a list, and a part of one, as such a map
+  pub by-index : (d : A) (l : List A) (n : ℕ) → length l ≡ n → l ≡ map (λ k. getD l k d) (numbers 0 n)
+  by-index d l n h = ext-getD d l _ (h ∙ sym (length-of (λ k. getD l k d) n)) (λ i m. sym (getD-of (λ k. getD l k d) n i d (omega arith)))
+
+  pub part-at : (d : A) (l : List A) (i n : ℕ) → i + n ≤ length l → take n (drop i l) ≡ map (λ k. getD l k d) (numbers i n)
+  part-at d l i zero h = refl
+  part-at d l i (suc n) h = rw (drop-cons l i d (omega arith)) (ap (λ r. getD l i d ∷ r) (part-at d l (suc i) n (omega arith)))
+
+  -- what is known of an array of structs is the length of the list of what they are made of
+  pub map-length : {B : Type 0} (f : A → B) (l : List A) (n : ℕ) → length (map f l) ≡ n → length l ≡ n
+  map-length f l n h = sym (length-map l f) ∙ h
+
+  -- neighbouring elements written over
+  pub getD-sets-other : (l : List A) (i : ℕ) (vs : List A) (j : ℕ) (d : A) → (j < i) ⊎ (i + length vs ≤ j) → getD (sets l i vs) j d ≡ getD l j d
+  getD-sets-other l i [] j d h = refl
+  getD-sets-other l i (v ∷ vs) j d h =
+      getD-sets-other (set l i v) (suc i) vs j d (⊎-elim (λ a. inl (omega arith)) (λ b. inr (omega arith)) h)
+      ∙ getD-set-other l i j v d (λ e. ⊎-elim (λ a. omega arith) (λ b. omega arith) h)
+
+  pub getD-sets-same : (l : List A) (i : ℕ) (vs : List A) (j : ℕ) (d : A) → i + length vs ≤ length l → j < length vs → getD (sets l i vs) (i + j) d ≡ getD vs j d
+  getD-sets-same l i (v ∷ vs) zero d h k =
+      getD-sets-other (set l i v) (suc i) vs (i + 0) d (inl (omega arith)) ∙ ap (λ n. getD (set l i v) n d) (omega arith) ∙ getD-set-same l i v d (omega arith)
+  getD-sets-same l i (v ∷ vs) (suc j) d h k =
+      ap (λ n. getD (sets (set l i v) (suc i) vs) n d) (omega arith) ∙ getD-sets-same (set l i v) (suc i) vs j d (rw length-set (omega arith)) (omega arith)
+
+module _ {A : Type 0} (cmp : A → A → Ordering) where
+  -- x before the last element: put among the others
+  insert-before-last : (x y : A) (l : List A) → cmp x y ≡ Ordering·lt → insert cmp x (l ++ y ∷ []) ≡ insert cmp x l ++ y ∷ []
+  insert-before-last x y [] h = rw h
+  insert-before-last x y (z ∷ l) h = go (cmp x z) (insert-before-last x y l h)
+    where
+      go : (c : Ordering) → insert cmp x (l ++ y ∷ []) ≡ insert cmp x l ++ y ∷ []
+          → put c x z (l ++ y ∷ []) (insert cmp x (l ++ y ∷ [])) ≡ put c x z l (insert cmp x l) ++ y ∷ []
+      go Ordering·lt ih = refl
+      go Ordering·eq ih = refl
+      go Ordering·gt ih = ap (λ r. z ∷ r) ih
+
+  -- x after each element of a: put among those behind
+  insert-behind : (x : A) (a b : List A) → ((z : A) → List·Memᴰ z a → cmp x z ≡ Ordering·gt) → insert cmp x (a ++ b) ≡ a ++ insert cmp x b
+  insert-behind x [] b h = refl
+  insert-behind x (z ∷ a) b h = rw (h z (List·Memᴰ·head refl)) (ap (λ r. z ∷ r) (insert-behind x a b (λ w m. h w (List·Memᴰ·tail m))))
+
+  -- The place of x, looked for from the end: x is before each element from i on. First none is passed, then one more.
+  pub place-none : (x : A) (l : List A) (i : ℕ) → length l ≡ i → insert cmp x l ≡ insert cmp x (take i l) ++ drop i l
+  place-none x l i h = rw (← h, take-length, drop-length, append-nil)
+
+  pub place-passed : (x : A) (l : List A) (i : ℕ) (d : A) → i < length l → cmp x (getD l i d) ≡ Ordering·lt
+      → insert cmp x l ≡ insert cmp x (take (suc i) l) ++ drop (suc i) l → insert cmp x l ≡ insert cmp x (take i l) ++ drop i l
+  place-passed x l i d h b e =
+      e ∙ ap (λ r. insert cmp x r ++ drop (suc i) l) (take-suc l i d h)
+      ∙ ap (λ r. r ++ drop (suc i) l) (insert-before-last x (getD l i d) (take i l) b)
+      ∙ append-snoc (insert cmp x (take i l)) (getD l i d) (drop (suc i) l)
+      ∙ ap (λ r. insert cmp x (take i l) ++ r) (sym (drop-cons l i d h))
+
+module _ {A : Type 0} {cmp : A → A → Ordering} (o : IsOrder cmp) where
+  -- in an ascending list each element before y stands before y
+  rising-until : (w y : A) (a b : List A) → rising cmp w (a ++ y ∷ b) ≡ true → (z : A) → List·Memᴰ z (w ∷ a) → cmp z y ≡ Ordering·lt
+  rising-until w y a b h z (List·Memᴰ·head e) = rw e (rising-before o w (a ++ y ∷ b) h y (Memᴰ·append-right a (List·Memᴰ·head refl)))
+  rising-until w y (v ∷ a) b h z (List·Memᴰ·tail m) = rising-until v y a b (and-true-split (isLess (cmp w v)) (rising cmp v (a ++ y ∷ b)) h .1) z m
+
+  ascending-until : (y : A) (a b : List A) → ascending cmp (a ++ y ∷ b) ≡ true → (z : A) → List·Memᴰ z a → cmp z y ≡ Ordering·lt
+  ascending-until y (w ∷ a) b h z m = rising-until w y a b h z m
+
+  -- so x, which is not before the element at i, is after all before that one
+  not-before : (x : A) (l : List A) (i : ℕ) (d : A) → ascending cmp l ≡ true → i < length l → (cmp x (getD l i d) ≡ Ordering·gt) ⊎ (cmp x (getD l i d) ≡ Ordering·eq)
+      → (z : A) → List·Memᴰ z (take i l) → cmp x z ≡ Ordering·gt
+  not-before x l i d ha h b z m =
+      let y = getD l i d in
+      let zy : cmp z y ≡ Ordering·lt = ascending-until y (take i l) (drop (suc i) l) (ap (ascending cmp) (sym (split-at l i d h)) ∙ ha) z m in
+      ⊎-elim
+      (λ g. o .turned z x ∙ ap flip (o .through z y x zy (o .turned x y ∙ ap flip g)))
+      (λ g. o .turned z x ∙ ap flip (ap (cmp z) (o .equal x y g) ∙ zy)) b
+
+  -- the element at i, the last that is not after x, is x: nothing is put; or it is before x: x is put behind it
+  place-last : (x : A) (l : List A) (i : ℕ) (d : A) → ascending cmp l ≡ true → i < length l
+      → (cmp x (getD l i d) ≡ Ordering·gt) ⊎ (cmp x (getD l i d) ≡ Ordering·eq) → insert cmp x l ≡ insert cmp x (take (suc i) l) ++ drop (suc i) l
+      → insert cmp x l ≡ (take i l ++ insert cmp x (getD l i d ∷ [])) ++ drop (suc i) l
+  place-last x l i d ha h b e =
+      e ∙ ap (λ r. insert cmp x r ++ drop (suc i) l) (take-suc l i d h)
+      ∙ ap (λ r. r ++ drop (suc i) l) (insert-behind cmp x (take i l) (getD l i d ∷ []) (not-before x l i d ha h b))
+
+  pub place-found : (x : A) (l : List A) (i : ℕ) (d : A) → ascending cmp l ≡ true → i < length l → cmp x (getD l i d) ≡ Ordering·eq
+      → insert cmp x l ≡ insert cmp x (take (suc i) l) ++ drop (suc i) l → insert cmp x l ≡ l
+  place-found x l i d ha h b e =
+      place-last x l i d ha h (inr b) e ∙ rw (b, ← take-suc l i d h) (take-append-drop (suc i) l)
+
+  pub place-behind : (x : A) (l : List A) (i : ℕ) (d : A) → ascending cmp l ≡ true → i < length l → cmp x (getD l i d) ≡ Ordering·gt
+      → insert cmp x l ≡ insert cmp x (take (suc i) l) ++ drop (suc i) l → insert cmp x l ≡ take (suc i) l ++ x ∷ drop (suc i) l
+  place-behind x l i d ha h b e =
+      place-last x l i d ha h (inl b) e ∙ rw (b, take-suc l i d h) (simp append-assoc)
+
+  -- one more of xs inserted
+  pub insertAll-more : (xs : List A) (i : ℕ) (d : A) (l : List A) → i < length xs
+      → insertAll cmp (drop i xs) l ≡ insertAll cmp (drop (suc i) xs) (insert cmp (getD xs i d) l)
+  insertAll-more xs i d l h = rw (drop-cons xs i d h)
+
+  -- one that exceeds the cap exceeds it for good
+  pub insertAll-over : (cap : ℕ) (xs l : List A) → cap < length l → within cap (insertAll cmp xs l) ≡ full
+  insertAll-over cap xs l h = rw (lt-leb (length (insertAll cmp xs l)) cap (omega (arith, length-insertAll o xs l)))
+
+module _ {A : Type 0} where
+  -- The elements of l from k to n - 1 moved up by one, from the last on: m is what l has become when i is still to be moved up to.
+  -- First nothing is moved, then one more.
+  pub gap-none : (l m : List A) (n : ℕ) → drop (suc n) (take (suc n) m) ≡ drop n (take n l)
+  gap-none l m n =
+      drop-of-length-le (take (suc n) m) {i = suc n} (omega (arith, length-take (suc n) m)) ∙ sym (drop-of-length-le (take n l) {i = n} (omega (arith, length-take n l)))
+
+  pub gap-more : (l m : List A) (i n : ℕ) (d : A) → i < n → n < length l → length m ≡ length l → take (suc i) m ≡ take (suc i) l
+      → drop (suc (suc i)) (take (suc n) m) ≡ drop (suc i) (take n l)
+      → (take i (set m (suc i) (getD m i d)) ≡ take i l) × (drop (suc i) (take (suc n) (set m (suc i) (getD m i d))) ≡ drop i (take n l))
+  gap-more l m i n d h k e t p =
+      let y = getD m i d in
+      let same : y ≡ getD (take n l) i d =
+      sym (getD-take (suc i) m i d (omega arith)) ∙ ap (λ r. getD r i d) t ∙ getD-take (suc i) l i d (omega arith) ∙ sym (getD-take n l i d h) in
+      let long : suc i < length (take (suc n) m) = omega (arith, length-take (suc n) m) in
+      let long′ : i < length (take n l) = omega (arith, length-take n l) in (
+        take-set-le i m (suc i) y (omega arith) ∙ sym (take-take i (suc i) m (omega arith)) ∙ ap (take i) t ∙ take-take i (suc i) l (omega arith),
+        ap (drop (suc i)) (take-set-lt (suc n) m (suc i) y (omega arith))
+            ∙ drop-cons (set (take (suc n) m) (suc i) y) (suc i) d (rw length-set long)
+            ∙ ap₂ _∷_ (getD-set-same (take (suc n) m) (suc i) y d long ∙ same) (drop-set-lt (suc (suc i)) (take (suc n) m) (suc i) y (omega arith) ∙ p)
+            ∙ sym (drop-cons (take n l) i d long′),
+      )
+
+  -- x put into the gap at k
+  pub gap-filled : (l m : List A) (k n : ℕ) (x : A) → k ≤ n → n < length m → take k m ≡ take k l
+      → drop (suc k) (take (suc n) m) ≡ drop k (take n l) → take (suc n) (set m k x) ≡ take k (take n l) ++ x ∷ drop k (take n l)
+  gap-filled l m k n x h j t p =
+      take-set-lt (suc n) m k x (omega arith) ∙ set-split (take (suc n) m) k x (omega (arith, length-take (suc n) m))
+      ∙ ap₂ (λ a b. a ++ x ∷ b) (take-take k (suc n) m (omega arith) ∙ t ∙ sym (take-take k n l h)) p
+
+  -- one more element of f written behind the first of l
+  pub behind-more : (l m f : List A) (at i : ℕ) (d : A) → at + i < length m → i < length f → take (at + i) m ≡ take at l ++ take i f
+      → take (suc (at + i)) (set m (at + i) (getD f i d)) ≡ take at l ++ take (suc i) f
+  behind-more l m f at i d h k e =
+      take-suc-set m (at + i) (getD f i d) h ∙ ap (λ r. r ++ getD f i d ∷ []) e ∙ append-assoc (take at l) (take i f) (getD f i d ∷ [])
+      ∙ ap (λ r. take at l ++ r) (sym (take-suc f i d k))
+
+module _ {A : Type 0} (cap : ℕ) (l : List A) where
+  pub within-few : length l ≤ cap → within cap l ≡ grown l
+  within-few h = rw (le-leb (length l) cap h)
+
+  pub within-over : cap < length l → within cap l ≡ full
+  within-over h = rw (lt-leb (length l) cap h)
+
+  -- and the other way round
+  pub few-within : (m : List A) → within cap l ≡ grown m → l ≡ m
+  few-within m e = go (leb (length l) cap) e
+    where
+      go : (b : Bool) → cond b (grown l) full ≡ grown m → l ≡ m
+      go true q = cc
+      go false q = cc
+
+  pub over-within : within cap l ≡ full → cap < length l
+  over-within e = go (leb (length l) cap) refl e
+    where
+      go : (b : Bool) → leb (length l) cap ≡ b → cond b (grown l) full ≡ full → cap < length l
+      go true p q = absurd (let z : _≡_ {A = ℕ} 0 1 = cc in omega arith)
+      go false p q = leb-false (length l) cap p

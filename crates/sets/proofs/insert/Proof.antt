@@ -1,0 +1,53 @@
+-- `sets::insert` meets its contract: d stands among the elements, there is no room for it, or it is put where the later ones have been moved up.
+use native.Mathlib.Omega.{arith}
+use borrow.Author.Needs.{needs}
+use Rattle.disjunct.specs.Disjuncts.{viewDisjunct}
+use Rattle.sets.proofs.Turns.{insert-found, insert-over, insert-put}
+use Rattle.sets.proofs.insert.Statement.{statement}
+use Rattle.sets.proofs.insert.Tie as tie
+
+place-of-requires : tie.Need-place-of-requires
+place-of-requires c κs = search needs
+
+returns : tie.Need-returns
+returns c =
+    let s = c .before .before .before in
+    let a = s .args in
+    insert-found (a .words .now) (a .n) (viewDisjunct (a .d)) (s .pre .0) (c .before .place-of .ensures .0 (c .if1 .taken))
+
+returns-2 : tie.Need-returns-2
+returns-2 c =
+    let s = c .before .before .before .before in
+    let a = s .args in
+    let p = c .before .before .place-of in
+    let h = p .ensures .1 (c .before .if1 .left) in
+    insert-over (a .words .now) (a .n) (viewDisjunct (a .d)) (s .pre .0) (p .result .at) (h .0) (h .1) (c .if2 .taken)
+
+shift-requires : tie.Need-shift-requires
+shift-requires c κs =
+    let h = c .before .before .before .place-of .ensures .1 (c .before .before .if1 .left) in
+    (h .0, omega (arith, c .before .before .before .before .before .pre .0))
+
+put-requires : tie.Need-put-requires
+put-requires c κs =
+    let s = c .before .before .before .before .before .before .before in
+    let p = c .before .before .before .before .before .place-of in
+    omega (arith, p .ensures .1 (c .before .before .before .before .if1 .left) .0, s .pre .0)
+
+add-result : tie.Need-add-result
+add-result c = search needs
+
+returns-3 : tie.Need-returns-3
+returns-3 c =
+    let s = c .before .before .before .before .before .before .before .before in
+    let a = s .args in
+    let p = c .before .before .before .before .before .before .place-of in
+    let h = p .ensures .1 (c .before .before .before .before .before .if1 .left) in
+    let m = c .before .before .shift in
+    insert-put (a .words .now) (a .n) (viewDisjunct (a .d)) (s .pre .0) (p .result .at) (h .0) (h .1) (m .last .0) (c .put .last .0)
+    (omega (arith, s .pre .0)) (record { upto = h .0; before = m .ensures .0; behind = m .ensures .1 }) (c .put .ensures)
+
+pub insert-spec : {M : Type 1} → statement M
+insert-spec =
+    tie.close
+    (tie.spec place-of-requires returns returns-2 shift-requires put-requires add-result returns-3)

@@ -1,0 +1,2 @@
+-- A set of disjuncts in lent words.
+pub mod Sets

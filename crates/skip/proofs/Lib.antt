@@ -1,0 +1,6 @@
+-- Laws for the proofs of the functions.
+pub mod Words
+pub mod Demands
+pub mod Growth
+pub mod Picks
+pub mod Constraints

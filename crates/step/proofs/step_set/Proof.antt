@@ -1,0 +1,47 @@
+-- `step::step_set` meets its contract: the start's part, then the others; nothing where the constraint is false.
+use mathlib.Core.Path.{_≡_, sym, ap, _∙_}
+use mathlib.Core.Bool.{false}
+use lib.ListN.{take}
+use Rattle.laws.specs.Bits.{bit}
+use Rattle.laws.specs.Sets.{within}
+use Rattle.meaning.specs.Events.{never}
+use Rattle.work.specs.Bounded.{pick, withStart, metSet}
+use Rattle.constraint.specs.declared.Constraint.{Constraint}
+use Rattle.constraint.specs.Constraints.{viewConstraint}
+use Rattle.sets.specs.Sets.{disjunctsIn, grownIn}
+use Rattle.sets.proofs.Sets.{in-grown}
+use Rattle.step.proofs.Meetings.{grown-started, met-ascending, met-never}
+use borrow.Author.Needs.{needs}
+use Rattle.step.proofs.step_set.Statement.{statement}
+use Rattle.step.proofs.step_set.Tie as tie
+
+view-never : (c : Constraint) → c .ok ≡ false → viewConstraint c ≡ never
+unfolding viewConstraint
+view-never c h = rw h
+
+add-start-requires : tie.Need-add-start-requires
+add-start-requires c κs = search needs
+
+add-sources-requires : tie.Need-add-sources-requires
+add-sources-requires c κs =
+    let s = c .before .before .before .before in
+    let e = c .before .add-start .ensures in
+    (s .pre .0, s .pre .1, s .pre .2, e .0, met-ascending _ _ (e .1))
+
+returns : tie.Need-returns
+returns c =
+    let a = c .before .before .before .before .before .args in
+    let e = c .before .before .add-start in
+    let r = c .add-sources in
+    grown-started (viewConstraint (a .c)) (a .begins)
+    (pick (λ m. bit (a .q) m) (take (a .n) (a .masks .now)) (take (a .n) (disjunctsIn (a .held .now)))) (take (e .result) (disjunctsIn (e .last .0)))
+    (grownIn (r .result) (r .last .1 .1 .1 .1 .1 .0)) (e .ensures .1) (r .ensures)
+
+returns-2 : tie.Need-returns-2
+returns-2 c =
+    let a = c .before .args in
+    let l = withStart (a .begins) (pick (λ m. bit (a .q) m) (take (a .n) (a .masks .now)) (take (a .n) (disjunctsIn (a .held .now)))) in
+    in-grown 0 (a .out .now) (search needs) ∙ sym (ap (λ k. within 128 (metSet k l)) (view-never (a .c) (c .if1 .left)) ∙ ap (within 128) (met-never l))
+
+pub step-set-spec : {M : Type 1} → statement M
+step-set-spec = tie.close (tie.spec add-start-requires add-sources-requires returns returns-2)

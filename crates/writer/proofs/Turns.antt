@@ -1,0 +1,41 @@
+-- A turn of the loop of put_rows: the bytes of the next valuation right behind those of the first i.
+use mathlib.Core.Path.{_≡_, sym, ap, ap₂, subst, _∙_}
+use mathlib.Core.List.{List, [], List·Memᴰ, Memᴰ·append-left}
+use Prim.Native.Nat.{ℕ, _+_, _*_, _≤_, _<_}
+use native.Mathlib.Omega.{arith}
+use lib.ListN.{length, take, drop, getD, take-append-drop}
+use lib.Seq.{length-take-le}
+use Rattle.laws.specs.Lists.{gather}
+use Rattle.laws.specs.Parts.{front, splice}
+use Rattle.laws.proofs.Lists.{mem-getD}
+use Rattle.meaning.specs.Events.{Valuation}
+use Rattle.work.specs.Bounded.{rowLimit}
+use Rattle.rows.specs.Valuations.{valuationsIn}
+use Rattle.rows.proofs.Valuations.{in-length, wide-in}
+use Rattle.writer.specs.RowBytes.{rowBytes}
+use Rattle.writer.proofs.RowBytes.{gather-length, gather-next, row-length}
+use Rattle.writer.proofs.Fronts.{front-append}
+
+module _ (number variables : ℕ) (w : List ℕ) where
+  in-row : (σ : Valuation) → List·Memᴰ σ (valuationsIn w) → length (rowBytes number variables σ) ≡ 24
+  in-row σ m = row-length number variables σ (omega (arith, wide-in w σ m))
+
+  -- the bytes of the first i valuations
+  first-length : (i : ℕ) → i ≤ rowLimit → length (gather (rowBytes number variables) (take i (valuationsIn w))) ≡ 24 * i
+  first-length i h =
+      let v = valuationsIn w in
+      let row : (σ : Valuation) → List·Memᴰ σ (take i v) → length (rowBytes number variables σ) ≡ 24 =
+      λ σ m. in-row σ (subst (λ l. List·Memᴰ σ l) (take-append-drop i v) (Memᴰ·append-left (drop i v) m)) in
+      omega (arith, gather-length (rowBytes number variables) 24 (take i v) row, length-take-le i v (omega (arith, in-length w)))
+
+  pub rows-next : (i : ℕ) (l : List ℕ) {x row out : List ℕ} → i < rowLimit → 24 * i + 24 ≤ length l → x ≡ getD (valuationsIn w) i []
+      → row ≡ rowBytes number variables x → out ≡ front (gather (rowBytes number variables) (take i (valuationsIn w))) l
+      → splice (24 * i) row out ≡ front (gather (rowBytes number variables) (take (i + 1) (valuationsIn w))) l
+  rows-next i l h k found made before =
+      let v = valuationsIn w in
+      let f = rowBytes number variables in
+      let inside : i < length v = omega (arith, in-length w) in
+      let size = in-row (getD v i []) (mem-getD v i [] inside) in
+      ap₂ (splice (24 * i)) (made ∙ ap f found) before
+      ∙ front-append (gather f (take i v)) (f (getD v i [])) l (24 * i) (first-length i (omega arith)) (omega arith)
+      ∙ ap (λ r. front r l) (sym (gather-next f v i [] inside))

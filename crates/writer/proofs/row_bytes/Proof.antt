@@ -1,0 +1,30 @@
+-- `row_bytes` meets its contract: the four words are their own padding, and a count below 256 is its own byte.
+use mathlib.Core.Path.{_≡_}
+use Prim.Native.Nat.{_%_}
+use native.Mathlib.Omega.{arith}
+use borrow.Author.Needs.{needs}
+use lib.ListN.{length}
+use Rattle.writer.specs.RowBytes.{wordBytes, rowBytes}
+use Rattle.writer.proofs.RowBytes.{four-words}
+use Rattle.writer.proofs.row_bytes.Statement.{statement}
+use Rattle.writer.proofs.row_bytes.Tie as tie
+
+returns : tie.Need-returns
+unfolding rowBytes wordBytes
+returns c =
+    let l : length (c .args .t3) ≡ 4 = search needs in
+    let small : c .args .variables % 256 ≡ c .args .variables = omega arith in
+    rw (four-words (c .args .t3) l, small)
+
+pub row-bytes-spec : {M : Type 1} → statement M
+row-bytes-spec =
+    tie.close
+    (tie.spec
+    (λ c. search needs) (λ c. search needs) (λ c. search needs) (λ c. search needs)
+    (λ c. search needs) (λ c. search needs) (λ c. search needs) (λ c. search needs)
+    (λ c. search needs) (λ c. search needs) (λ c. search needs) (λ c. search needs)
+    (λ c. search needs) (λ c. search needs) (λ c. search needs) (λ c. search needs)
+    (λ c. search needs) (λ c. search needs) (λ c. search needs) (λ c. search needs)
+    (λ c. search needs) (λ c. search needs) (λ c. search needs) (λ c. search needs)
+    (λ c. search needs)
+    returns)

@@ -1,0 +1,2 @@
+-- The bytes of a row.
+pub mod RowBytes

@@ -1,0 +1,88 @@
+// The bytes of rows: 24 to each, written into the lent buffer from a given place on. For the event call.
+ghost use mathlib.Core.Path.{_≡_};
+ghost use Prim.Native.Nat.{_+_, _*_, _≤_};
+ghost use lib.ListN.{length, take};
+ghost use Rattle.laws.specs.Lists.{gather};
+ghost use Rattle.laws.specs.Parts.{front, splice};
+ghost use Rattle.work.specs.Bounded.{rowLimit};
+ghost use Rattle.rows.specs.Valuations.{valuationsIn};
+ghost use Rattle.writer.specs.RowBytes.{rowBytes};
+
+// One row: the event number, the variable count, three zeros and four values, little-endian.
+fn row_bytes(number: u32, variables: usize, x: [u32; 4]) -> [u8; 24]
+    requires { ⌜ variables ≤ 4 ⌝ }
+    ensures { λ r. ⌜ r ≡ rowBytes number variables x ⌝ }
+{
+    let a = x[0];
+    let b = x[1];
+    let c = x[2];
+    let d = x[3];
+    [
+        (number % 256) as u8,
+        (number / 256 % 256) as u8,
+        (number / 65536 % 256) as u8,
+        (number / 16777216 % 256) as u8,
+        (variables % 256) as u8,
+        0,
+        0,
+        0,
+        (a % 256) as u8,
+        (a / 256 % 256) as u8,
+        (a / 65536 % 256) as u8,
+        (a / 16777216 % 256) as u8,
+        (b % 256) as u8,
+        (b / 256 % 256) as u8,
+        (b / 65536 % 256) as u8,
+        (b / 16777216 % 256) as u8,
+        (c % 256) as u8,
+        (c / 256 % 256) as u8,
+        (c / 65536 % 256) as u8,
+        (c / 16777216 % 256) as u8,
+        (d % 256) as u8,
+        (d / 256 % 256) as u8,
+        (d / 65536 % 256) as u8,
+        (d / 16777216 % 256) as u8,
+    ]
+}
+
+// One row over the beginning of a part.
+fn put_row(out: &mut [u8], row: [u8; 24])
+    requires { ⌜ 24 ≤ length (now out) ⌝ }
+    ensures { λ _. ⌜ now (out .exit) ≡ front row (now (out .entry)) ⌝ }
+{
+    let mut i: usize = 0;
+    while i < 24 {
+        out[i] = row[i];
+        i += 1;
+    }
+}
+
+// The first n rows over the beginning of a part.
+fn put_rows(out: &mut [u8], words: &[u32; 8256], n: usize, number: u32, variables: usize)
+    requires { ⌜ (variables ≤ 4) × (n ≤ rowLimit) × (24 * n ≤ length (now out)) ⌝ }
+    ensures { λ _. ⌜ now (out .exit) ≡ front (gather (rowBytes number variables) (take n (valuationsIn (now (words .entry))))) (now (out .entry)) ⌝ }
+{
+    let mut i: usize = 0;
+    while i < n {
+        let x = rows::get(words, i);
+        let row = row_bytes(number, variables, x);
+        let at = 24 * i;
+        put_row(&mut out[at..], row);
+        i += 1;
+    }
+}
+
+// The first n rows from the place on; the bytes before it and after the last row stay.
+pub fn write_rows(
+    out: &mut [u8],
+    place: usize,
+    words: &[u32; 8256],
+    n: usize,
+    number: u32,
+    variables: usize,
+)
+    requires { ⌜ (variables ≤ 4) × (n ≤ rowLimit) × (place + 24 * n ≤ length (now out)) ⌝ }
+    ensures { λ _. ⌜ now (out .exit) ≡ splice place (gather (rowBytes number variables) (take n (valuationsIn (now (words .entry))))) (now (out .entry)) ⌝ }
+{
+    put_rows(&mut out[place..], words, n, number, variables);
+}
