@@ -10,11 +10,11 @@ use Rattle.meaning.specs.Events.{Event, Constraint, constraintOf}
 use Rattle.meaning.specs.Book.{Book, positions}
 use Rattle.meaning.specs.Labels.{Entry, Disjunct, Held, exclusions, labelOf, stepSet, skipBy, skipThrough, newHeld}
 
--- "at most 6 excluded values", "all 128 disjunct places"
+-- "at most 6 excluded values"
 abbrev pub exclusionLimit : ℕ
 exclusionLimit = 6
 
--- "all 128 disjunct places"
+-- "all 128 disjunct places", "exceeds 128"
 abbrev pub heldLimit : ℕ
 heldLimit = 128
 

@@ -1,5 +1,5 @@
--- Runs of event calls, their trace and their rows, and what demands 2 and 3 say of them: document 01, "Crossed
--- messages". The theorems are in ../proofs/Listed.antt and ../proofs/Crossed.antt.
+-- Runs on plain data, their trace and their rows, and what demands 2 and 3 say of them: document 01, "Crossed messages". A step
+-- to the runs of the crate watch, which are lists of event calls over bytes. Theorems: ../proofs/Listed.antt, ../proofs/Crossed.antt.
 use mathlib.Core.Path.{_≡_}
 use mathlib.Core.Bool.{Bool, true, false}
 use mathlib.Core.List.{List, [], _∷_, List·Memᴰ}
@@ -52,8 +52,8 @@ heldAfter tm cs = run (newHeld (bookOf tm)) (fresh .held) cs
 abbrev pub rowLists : Tracematch → List Call → List (List Valuation)
 rowLists tm cs = given (newHeld (bookOf tm)) (rows (bookOf tm)) (fresh .held) cs
 
--- a run that accepts only well-formed events, below the limit of their number, for which there is room: every run of the
--- watch is one, since answers 10, 11 and 12 refuse the others
+-- a run that accepts only well-formed events, below the limit of their number, for which there is room: answers 10, 11 and 12
+-- refuse the others
 pub data OrderlyFrom (b : Book) : State → List Call → Type 0 where
   finished : {s : State} → OrderlyFrom b s []
   accepts : {s : State} {e : Event} {cs : List Call} → wellFormed e ≡ true → s .number < eventLimit → room b (s .held) e ≡ true

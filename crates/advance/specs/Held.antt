@@ -1,0 +1,26 @@
+-- Positions and disjuncts in lent words as what is held; and the counts of a book within its arrays.
+use mathlib.Core.Path.{_≡_}
+use mathlib.Core.Bool.{true, cond}
+use mathlib.Core.List.{List}
+use Prim.Native.Nat.{ℕ, _≤_}
+use lib.Dec.{leb}
+use lib.ListN.{take}
+use Rattle.laws.specs.Lists.{all}
+use Rattle.laws.specs.Sets.{Grown, full, grown}
+use Rattle.meaning.specs.Labels.{Held}
+use Rattle.work.specs.Bounded.{heldOf}
+use Rattle.sets.specs.Sets.{disjunctsIn}
+use Rattle.book.specs.declared.Book.{Book}
+
+-- the first n positions and disjuncts
+unfoldable pub heldIn : ℕ → (at words : List ℕ) → List Held
+heldIn n at w = heldOf (take n at) (take n (disjunctsIn w))
+
+-- a count of up to 128 and the words; a greater count is the answer that there is no room
+unfoldable pub heldGrown : ℕ → (at words : List ℕ) → Grown Held
+heldGrown n at w = cond (leb n 128) (grown (heldIn n at w)) full
+
+-- counts that do not pass the ends of the arrays
+pub record Counts (b : Book) : Type 0 where
+  pub positions : b .positions ≤ 31
+  pub symbols : b .symbols ≤ 16

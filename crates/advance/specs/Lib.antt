@@ -1,0 +1,2 @@
+-- What is held, in lent words.
+pub mod Held

@@ -1,0 +1,230 @@
+// The rows of an event collected from the step sets of its ending positions, and the test for a row that would leave a variable
+// free. For the event call.
+use book::Book;
+use constraint::Constraint;
+use disjunct::Disjunct;
+ghost use mathlib.Core.Path.{_≡_};
+ghost use mathlib.Core.Bool.{true, cond};
+ghost use mathlib.Core.List.{[], _∷_, map};
+ghost use Prim.Native.Nat.{ℕ, _≤_, _<_};
+ghost use lib.ListN.{take, getD};
+ghost use Rattle.laws.specs.Bits.{bit};
+ghost use Rattle.laws.specs.Order.{ascending};
+ghost use Rattle.laws.specs.Sets.{Grown, within};
+ghost use Rattle.meaning.specs.Events.{Event, constraintOf};
+ghost use Rattle.meaning.specs.Book.{soundBook, followers};
+ghost use Rattle.meaning.specs.Rows.{compareValuations, rows};
+ghost use Rattle.work.specs.Wide.{wideBook};
+ghost use Rattle.work.specs.Bounded.{pick, withStart, rowLimit, rowsWith, freeIn, freeRows};
+ghost use Rattle.constraint.specs.Constraints.{viewConstraint, noConstraint, Ready};
+ghost use Rattle.disjunct.specs.Disjuncts.{viewDisjunct};
+ghost use Rattle.sets.specs.Sets.{disjunctsIn};
+ghost use Rattle.book.specs.Books.{viewBook};
+ghost use Rattle.advance.specs.Held.{heldIn, Counts};
+ghost use Rattle.rows.specs.Valuations.{valuationsIn, rowsGrown};
+
+// The row that d gives with c, put among the first m.
+fn add_row(out: &mut [u32; 8256], m: usize, d: Disjunct, c: Constraint) -> usize
+    requires { ⌜ (m ≤ rowLimit) × Ready c × (ascending compareValuations (take m (valuationsIn (now out))) ≡ true) ⌝ }
+    ensures { λ r. ⌜ rowsGrown r (now (out .exit)) ≡ rowsWith (viewConstraint c) (viewDisjunct d ∷ []) (Grown.grown (take m (valuationsIn (now (out .entry))))) ⌝ }
+{
+    let x = d.meet(c);
+    if x.ok {
+        let e = x.disjunct;
+        return rows::insert_row(out, m, e.values());
+    }
+    m
+}
+
+// The rows of one ending position q put among the first m: how many there are then, or 2,065.
+fn rows_at(
+    held: &[u32; 3584],
+    masks: &[u32; 128],
+    n: usize,
+    q: usize,
+    begins: bool,
+    c: Constraint,
+    out: &mut [u32; 8256],
+    m: usize,
+) -> usize
+    requires { ⌜ (n ≤ 128) × (q ≤ 31) × (m ≤ rowLimit) × Ready c × (ascending compareValuations (take m (valuationsIn (now out))) ≡ true) ⌝ }
+    ensures { λ r. ⌜ rowsGrown r (now (out .exit)) ≡ rowsWith (viewConstraint c)
+        (withStart begins (pick (λ x. bit q x) (take n (now (masks .entry))) (take n (disjunctsIn (now (held .entry))))))
+        (Grown.grown (take m (valuationsIn (now (out .entry))))) ⌝ }
+{
+    let mut k = m;
+    if begins {
+        k = add_row(out, k, Disjunct::free(), c);
+        if 2064 < k {
+            return 2065;
+        }
+    }
+    let mut i: usize = 0;
+    while i < n {
+        if step::has(masks[i], q) {
+            let d = sets::get(held, i);
+            k = add_row(out, k, d, c);
+            if 2064 < k {
+                return 2065;
+            }
+        }
+        i += 1;
+    }
+    k
+}
+
+// The same for any position q: none where it does not end a word. A false constraint gives none either.
+fn rows_of(
+    held: &[u32; 3584],
+    masks: &[u32; 128],
+    n: usize,
+    q: usize,
+    begins: u32,
+    ends: u32,
+    c: Constraint,
+    out: &mut [u32; 8256],
+    m: usize,
+) -> usize
+    requires { ⌜ (n ≤ 128) × (q ≤ 31) × (m ≤ rowLimit) × Ready c × (ascending compareValuations (take m (valuationsIn (now out))) ≡ true) ⌝ }
+    ensures { λ r. ⌜ rowsGrown r (now (out .exit)) ≡ rowsWith (viewConstraint c)
+        (cond (bit q ends) (withStart (bit q begins) (pick (λ x. bit q x) (take n (now (masks .entry))) (take n (disjunctsIn (now (held .entry)))))) [])
+        (Grown.grown (take m (valuationsIn (now (out .entry))))) ⌝ }
+{
+    if c.ok && step::has(ends, q) {
+        let starts = step::has(begins, q);
+        return rows_at(held, masks, n, q, starts, c, out, m);
+    }
+    m
+}
+
+// The rows of an event, from the constraints of the book's symbols: how many, or 2,065.
+pub fn collect(
+    book: Book,
+    cs: [Constraint; 16],
+    held: &[u32; 3584],
+    at: &[u32; 128],
+    masks: &[u32; 128],
+    n: usize,
+    out: &mut [u32; 8256],
+) -> usize
+    requires { ⌜ (n ≤ 128) × Counts book × (soundBook (viewBook book) ≡ true)
+        × (take n (now masks) ≡ map (followers (viewBook book)) (take n (now at))) × ((i : ℕ) → i < book .symbols → Ready (getD cs i noConstraint)) ⌝ }
+    ensures { λ r. ⌜ ((e : Event) → map viewConstraint (take (book .symbols) cs) ≡ map (λ s. constraintOf s e) (viewBook book .symbols)
+        → rowsGrown r (now (out .exit)) ≡ within rowLimit (rows (wideBook (viewBook book)) (heldIn n (now (at .entry)) (now (held .entry))) e)) ⌝ }
+{
+    let positions = book.positions;
+    let mut m: usize = 0;
+    let mut i: usize = 0;
+    while i < positions {
+        let y = book.occurrences[i] as usize;
+        let c = cs[y];
+        m = rows_of(held, masks, n, i + 1, book.begins, book.ends, c, out, m);
+        if 2064 < m {
+            return 2065;
+        }
+        i += 1;
+    }
+    m
+}
+
+// Whether d met with c leaves one of the first v variables free.
+fn free_met(d: Disjunct, c: Constraint, v: usize) -> bool
+    requires { ⌜ (v ≤ 4) × Ready c ⌝ }
+    ensures { λ r. ⌜ r ≡ freeIn v (viewConstraint c) (viewDisjunct d ∷ []) ⌝ }
+{
+    let x = d.meet(c);
+    if x.ok {
+        let e = x.disjunct;
+        return e.leaves_free(v);
+    }
+    false
+}
+
+// The same for the sources of one ending position q.
+fn free_at(
+    held: &[u32; 3584],
+    masks: &[u32; 128],
+    n: usize,
+    q: usize,
+    begins: bool,
+    c: Constraint,
+    v: usize,
+) -> bool
+    requires { ⌜ (n ≤ 128) × (q ≤ 31) × (v ≤ 4) × Ready c ⌝ }
+    ensures { λ r. ⌜ r ≡ freeIn v (viewConstraint c) (withStart begins (pick (λ x. bit q x) (take n (now (masks .entry))) (take n (disjunctsIn (now (held .entry)))))) ⌝ }
+{
+    if begins {
+        if free_met(Disjunct::free(), c, v) {
+            return true;
+        }
+    }
+    let mut i: usize = 0;
+    while i < n {
+        if step::has(masks[i], q) {
+            let d = sets::get(held, i);
+            if free_met(d, c, v) {
+                return true;
+            }
+        }
+        i += 1;
+    }
+    false
+}
+
+// The same for any position q.
+fn free_of(
+    held: &[u32; 3584],
+    masks: &[u32; 128],
+    n: usize,
+    q: usize,
+    begins: u32,
+    ends: u32,
+    c: Constraint,
+    v: usize,
+) -> bool
+    requires { ⌜ (n ≤ 128) × (q ≤ 31) × (v ≤ 4) × Ready c ⌝ }
+    ensures { λ r. ⌜ r ≡ freeIn v (viewConstraint c)
+        (cond (bit q ends) (withStart (bit q begins) (pick (λ x. bit q x) (take n (now (masks .entry))) (take n (disjunctsIn (now (held .entry)))))) []) ⌝ }
+{
+    if c.ok && step::has(ends, q) {
+        let starts = step::has(begins, q);
+        return free_at(held, masks, n, q, starts, c, v);
+    }
+    false
+}
+
+// "a row that would leave a variable free", disjunct by disjunct.
+pub fn leaves_free(
+    book: Book,
+    cs: [Constraint; 16],
+    held: &[u32; 3584],
+    at: &[u32; 128],
+    masks: &[u32; 128],
+    n: usize,
+) -> bool
+    requires { ⌜ (n ≤ 128) × Counts book × (soundBook (viewBook book) ≡ true)
+        × (take n (now masks) ≡ map (followers (viewBook book)) (take n (now at))) × ((i : ℕ) → i < book .symbols → Ready (getD cs i noConstraint)) ⌝ }
+    ensures { λ r. ⌜ ((e : Event) → map viewConstraint (take (book .symbols) cs) ≡ map (λ s. constraintOf s e) (viewBook book .symbols)
+        → r ≡ freeRows (book .variables) (wideBook (viewBook book)) (heldIn n (now (at .entry)) (now (held .entry))) e) ⌝ }
+{
+    let positions = book.positions;
+    let mut i: usize = 0;
+    while i < positions {
+        let y = book.occurrences[i] as usize;
+        let c = cs[y];
+        if free_of(
+            held,
+            masks,
+            n,
+            i + 1,
+            book.begins,
+            book.ends,
+            c,
+            book.variables,
+        ) {
+            return true;
+        }
+        i += 1;
+    }
+    false
+}

@@ -1,0 +1,79 @@
+// The state of a watch by value: the event number and the pool of 128 disjuncts; taken into lent words and made of them.
+use disjunct::Disjunct;
+ghost use mathlib.Core.Path.{_≡_};
+ghost use mathlib.Core.List.{[], map};
+ghost use Prim.Native.Nat.{_≤_, _<_};
+ghost use lib.ListN.{length, take, getD, set};
+ghost use Rattle.disjunct.specs.Disjuncts.{viewDisjunct};
+ghost use Rattle.work.specs.Wide.{wide, wideHeld};
+ghost use Rattle.advance.specs.Held.{heldIn};
+ghost use Rattle.state.specs.States.{stateOf, heldFirst};
+
+// The first `count` places are taken: the position and the disjunct in its label. The others are free.
+pub struct State {
+    pub number: u32,
+    pub count: usize,
+    pub positions: [u32; 128],
+    pub pool: [Disjunct; 128],
+}
+
+// All 128 places free.
+pub fn vacant(number: u32) -> State
+    ensures { λ r. ⌜ r ≡ stateOf (record { number = number; held = [] }) ⌝ }
+{
+    let d = Disjunct::free();
+    State {
+        number: number,
+        count: 0,
+        positions: [0u32; 128],
+        pool: [d; 128],
+    }
+}
+
+// The i-th position of those that are held.
+fn position_at(at: &[u32], i: usize) -> u32
+    requires { ⌜ i < length (now at) ⌝ }
+    ensures { λ r. ⌜ r ≡ getD (now (at .entry)) i 0 ⌝ }
+{
+    at[i]
+}
+
+// The i-th position written over.
+fn put_position(at: &mut [u32], i: usize, p: u32)
+    requires { ⌜ i < length (now at) ⌝ }
+    ensures { λ _. ⌜ now (at .exit) ≡ set (now (at .entry)) i p ⌝ }
+{
+    at[i] = p;
+}
+
+// What the state holds of the first `variables` variables, in lent words; the further variables free.
+pub fn load(s: State, variables: usize, at: &mut [u32; 128], words: &mut [u32; 3584])
+    requires { ⌜ (s .count ≤ 128) × (variables ≤ 4) ⌝ }
+    ensures { λ _. ⌜ heldIn (s .count) (now (at .exit)) (now (words .exit)) ≡ map wideHeld (heldFirst variables s) ⌝ }
+{
+    let n = s.count;
+    let mut i: usize = 0;
+    while i < n {
+        let d = s.pool[i];
+        put_position(at, i, s.positions[i]);
+        sets::put(words, i, d.tidied(variables));
+        i += 1;
+    }
+}
+
+// The state that holds what the lent words say, all that is not counted zero.
+pub fn store(number: u32, at: &[u32; 128], words: &[u32; 3584], n: usize) -> State
+    requires { ⌜ n ≤ 128 ⌝ }
+    ensures { λ r. ⌜ r ≡ stateOf (record { number = number; held = heldIn n (now (at .entry)) (now (words .entry)) }) ⌝ }
+{
+    let mut s = vacant(number);
+    let mut i: usize = 0;
+    while i < n {
+        let d = sets::get(words, i);
+        s.positions[i] = position_at(at, i);
+        s.pool[i] = d.tidied(4);
+        i += 1;
+    }
+    s.count = n;
+    s
+}
