@@ -1,0 +1,92 @@
+-- What a sound book and a sound state give: counts within their arrays, sound views, declared variables at the places of symbols,
+-- and positions of the book. For the event call.
+use mathlib.Core.Path.{_≡_, refl, sym, ap₂, _∙_}
+use mathlib.Core.Bool.{Bool, true, _&&_, and-eq-true-iff}
+use mathlib.Core.List.{map}
+use Prim.Native.Nat.{ℕ, _≤_}
+use native.Mathlib.Omega.{arith}
+use borrow.Author.Tests.{leb-true, le-leb, ltb-true, lt-ltb}
+use lib.Dec.{leb}
+use lib.ListN.{length, take, length-take}
+use Rattle.laws.specs.Lists.{all}
+use Rattle.laws.proofs.Lists.{and-true-split, all-at, all-of, all-map}
+use Rattle.meaning.specs.Events.{Place, ignored, names}
+use Rattle.meaning.specs.Book.{soundPlace, soundSymbol, soundBook}
+use Rattle.meaning.specs.Sound.{soundDisjunct, soundPiece, soundHeld, soundState}
+use Rattle.table.specs.declared.Symbol.{Symbol}
+use Rattle.table.specs.Tables.{viewSymbol}
+use Rattle.disjunct.specs.Disjuncts.{viewDisjunct}
+use Rattle.book.specs.declared.Book.{Book}
+use Rattle.book.specs.Books.{viewBook}
+use Rattle.state.specs.declared.State.{State}
+use Rattle.state.specs.States.{heldFirst, viewState}
+use Rattle.sound.specs.Soundness.{symbolCounts, bookCounts, bookSound, stateCounts, stateSound}
+use Rattle.sound.proofs.Parts.{pieces-parts}
+
+pub book-counts : (b : Book) → bookSound b ≡ true → (b .variables ≤ 4) × (b .symbols ≤ 16) × (b .positions ≤ 31)
+unfolding bookSound bookCounts soundBook viewBook
+book-counts b h = let p = simp and-eq-true-iff at h in (omega (arith, leb-true), omega (arith, leb-true), omega (arith, leb-true))
+
+pub book-view : (b : Book) → bookSound b ≡ true → soundBook (viewBook b) ≡ true
+unfolding bookSound
+book-view b h = and-true-split (bookCounts b) (soundBook (viewBook b)) h .1
+
+-- the symbols of a book, as the struct's counts and as the view tell
+symbols-told : (b : Book) → bookSound b ≡ true → let l = take (b .symbols) (b .table) in
+    (all symbolCounts l ≡ true) × (all (soundSymbol (b .variables)) (map viewSymbol l) ≡ true)
+unfolding bookSound bookCounts soundBook viewBook
+symbols-told b h = let p = simp and-eq-true-iff at h in (search, search)
+
+-- a variable of the book is one of four
+place-wide : (n : ℕ) → n ≤ 4 → (p : Place) → soundPlace n p ≡ true → soundPlace 4 p ≡ true
+place-wide n h ignored k = refl
+place-wide n h (names v) k = lt-ltb v 4 (omega (arith, ltb-true v n k))
+
+symbol-wide : (n : ℕ) → n ≤ 4 → (y : Symbol) → symbolCounts y ≡ true → soundSymbol n (viewSymbol y) ≡ true
+    → (leb (y .count) 4 && all (soundPlace 4) (viewSymbol y .places)) ≡ true
+unfolding symbolCounts soundSymbol
+symbol-wide n h y c k =
+    let p = simp and-eq-true-iff at c in
+    let q = simp and-eq-true-iff at k in
+    let s : all (soundPlace n) (viewSymbol y .places) ≡ true = search in
+    ap₂ _&&_ (p .0) (all-of (soundPlace 4) (viewSymbol y .places) (λ x m. place-wide n h x (all-at (soundPlace n) s m)))
+
+pub book-symbols : (b : Book) → bookSound b ≡ true
+    → all (λ y. leb (y .count) 4 && all (soundPlace 4) (viewSymbol y .places)) (take (b .symbols) (b .table)) ≡ true
+book-symbols b h =
+    let l = take (b .symbols) (b .table) in
+    let t = symbols-told b h in
+    let v = sym (all-map (soundSymbol (b .variables)) viewSymbol l) ∙ t .1 in
+    all-of (λ (y : Symbol). leb (y .count) 4 && all (soundPlace 4) (viewSymbol y .places)) l
+    λ y m.
+    symbol-wide (b .variables) (book-counts b h .0) y (all-at symbolCounts (t .0) m) (all-at (λ z. soundSymbol (b .variables) (viewSymbol z)) v m)
+
+pub state-count : (b : Book) (s : State) → stateSound b s ≡ true → s .count ≤ 128
+unfolding stateSound stateCounts
+state-count b s h = let p = simp and-eq-true-iff at h in omega (arith, leb-true)
+
+pub state-number : (b : Book) (s : State) → stateSound b s ≡ true → s .number ≤ 1000000
+unfolding stateSound soundState viewState
+state-number b s h = let p = simp and-eq-true-iff at h in omega (arith, leb-true)
+
+pub state-view : (b : Book) (s : State) → stateSound b s ≡ true → soundHeld (viewBook b) (heldFirst (b .variables) s) ≡ true
+unfolding stateSound soundState viewState
+state-view b s h = let p = simp and-eq-true-iff at h in search
+
+held-pieces : (b : Book) (s : State) → stateSound b s ≡ true → all (soundPiece (viewBook b)) (heldFirst (b .variables) s) ≡ true
+unfolding soundHeld
+held-pieces b s h = let v = state-view b s h in let p = simp and-eq-true-iff at v in search
+
+pub state-positions : (b : Book) (s : State) → length (s .positions) ≡ 128 → length (s .pool) ≡ 128 → stateSound b s ≡ true
+    → all (λ p. leb 1 p && leb p (b .positions)) (take (s .count) (s .positions)) ≡ true
+state-positions b s g k h =
+    let n = b .variables in
+    let most = length (take (b .positions) (b .occurrences)) in
+    let c = state-count b s h in
+    let range : ℕ → Bool = λ p. leb 1 p && leb p most in
+    let t = sym (pieces-parts b s (omega arith) (omega arith)) ∙ held-pieces b s h in
+    let others = all (λ d. soundDisjunct n (take n (viewDisjunct d))) (take (s .count) (s .pool)) in
+    let r = and-true-split (all range (take (s .count) (s .positions))) others t .0 in
+    all-of (λ p. leb 1 p && leb p (b .positions)) (take (s .count) (s .positions))
+    (λ p m. let q = and-true-split (leb 1 p) (leb p most) (all-at range r m) in
+    ap₂ _&&_ (q .0) (le-leb p (b .positions) (omega (arith, leb-true p most (q .1), length-take (b .positions) (b .occurrences)))))

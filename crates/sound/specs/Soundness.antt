@@ -1,0 +1,69 @@
+-- Answer 9, "unsound book or state": "Sound means: at least one position, every number in its declared range, no empty word,
+-- exclusions and disjuncts ascending and distinct, no exclusions at a bound variable, at most 128 disjuncts." The counts and tags
+-- of the structs are judged here; the rest through the views, by the definitions of the crate meaning. What no count reaches
+-- (places not taken, exclusions not counted, the value of a free variable, variables beyond the book's) is not judged; nor are the
+-- places of names, which no event call reads, and the number beside an ignored place.
+use mathlib.Core.Bool.{Bool, cond, not, _&&_}
+use mathlib.Core.List.{List, map}
+use Prim.Native.Nat.{ℕ}
+use lib.Dec.{eqb, leb, ltb}
+use lib.ListN.{length, take}
+use Rattle.laws.specs.Lists.{all}
+use Rattle.laws.specs.Order.{ascending}
+use Rattle.meaning.specs.Book.{soundSymbol, soundMask, soundBook}
+use Rattle.meaning.specs.Labels.{compareHeld}
+use Rattle.meaning.specs.Sound.{soundEntry, soundState, eventLimit}
+use Rattle.table.specs.declared.Symbol.{Symbol}
+use Rattle.table.specs.Tables.{viewSymbol}
+use Rattle.slot.specs.declared.Slot.{Slot}
+use Rattle.slot.specs.Slots.{viewSlot}
+use Rattle.disjunct.specs.declared.Disjunct.{Disjunct}
+use Rattle.book.specs.declared.Book.{Book}
+use Rattle.book.specs.Books.{viewBook}
+use Rattle.state.specs.declared.State.{State}
+use Rattle.state.specs.States.{heldFirst, viewState}
+
+-- a symbol whose counts and tags are in range: at most four places, each ignored (0) or a variable (1)
+unfoldable pub symbolCounts : Symbol → Bool
+symbolCounts y = leb (y .count) 4 && all (λ p. leb (p .tag) 1) (take (y .count) (y .places))
+
+-- the counts of a book within its arrays
+unfoldable pub bookCounts : Book → Bool
+bookCounts b = leb (b .symbols) 16 && leb (b .positions) 31 && all symbolCounts (take (b .symbols) (b .table))
+
+-- "unsound book": not this
+unfoldable pub bookSound : Book → Bool
+bookSound b = bookCounts b && soundBook (viewBook b)
+
+-- at most six exclusions, "no exclusions at a bound variable"
+unfoldable pub slotCounts : Slot → Bool
+slotCounts s = leb (s .count) (cond (s .bound) 0 6)
+
+-- the counts of a state within its arrays
+unfoldable pub stateCounts : (variables : ℕ) → State → Bool
+stateCounts n s = leb (s .count) 128 && all (λ d. all slotCounts (take n (d .vars))) (take (s .count) (s .pool))
+
+-- "unsound … state": not this
+unfoldable pub stateSound : Book → State → Bool
+stateSound b s = stateCounts (b .variables) s && soundState (viewBook b) (viewState (b .variables) s)
+
+-- the parts that the code tests one by one
+unfoldable pub slotSound : Slot → Bool
+slotSound s = slotCounts s && soundEntry (viewSlot s)
+
+unfoldable pub disjunctSound : ℕ → Disjunct → Bool
+disjunctSound n d = all slotSound (take n (d .vars))
+
+unfoldable pub poolSound : (variables positions : ℕ) → State → Bool
+poolSound n m s = all (λ p. leb 1 p && leb p m) (take (s .count) (s .positions)) && all (disjunctSound n) (take (s .count) (s .pool))
+
+unfoldable pub symbolSound : ℕ → Symbol → Bool
+symbolSound n y = symbolCounts y && soundSymbol n (viewSymbol y)
+
+unfoldable pub patternSound : Book → Bool
+patternSound b =
+    let n = b .positions in
+    leb 1 n && leb n 31
+    && all (λ a. ltb a (b .symbols)) (take n (b .occurrences))
+    && soundMask n (b .begins) && soundMask n (b .ends) && all (soundMask n) (take n (b .follows))
+    && not (b .empty)
