@@ -1,50 +1,125 @@
--- The table of the starred roasts of document 01: texts with the events sent under them and the answers, and texts with the
--- number and place that their reading gets. The theorem about the whole table is in ../proofs/Starred.antt.
-use mathlib.Core.List.{List, [], _∷_}
-use Prim.Native.Nat.{ℕ}
+-- The table of the starred roasts of document 01, as bytes: texts with the records sent under them and the lines that come back, and
+-- texts with the number and place that their reading gets. The theorems about the whole table are in ../proofs/Starred.antt.
+use mathlib.Core.List.{List, [], _∷_, _++_, map}
+use Prim.Native.Nat.{ℕ, _-_}
 use Prim.Native.Char.{code}
 use Prim.Native.String.{String}
-use Rattle.meaning.specs.Starred.{Case, Answer, answers, listing, unknownKind, overlapping, oneRow, excluded, sixExcluded}
-use Rattle.meaning.specs.Book.{bookOf}
+use lib.ListN.{length, replicate}
+use Rattle.laws.specs.Lists.{gather}
+use Rattle.laws.specs.Parts.{pad}
 use Rattle.form.specs.Text.{Bytes}
-use Rattle.form.specs.Reading.{readingOf, tracematch}
+use Rattle.book.specs.Answers as Reading
+use Rattle.book.specs.Books.{reading}
+use Rattle.watch.specs.Answers.{numberOf}
+use Rattle.watch.specs.Runs.{Call, event, Made, runOf}
 
 -- the bytes of an ASCII text
 abbrev pub ascii : String → Bytes
 ascii String.[] = []
 ascii (String._∷_ c s) = code c ∷ ascii s
 
+-- a number below 256 in four bytes
+abbrev word : ℕ → Bytes
+word x = x ∷ 0 ∷ 0 ∷ 0 ∷ []
+
+-- an event record, and the 24 bytes of a row: event number, values
+abbrev pub sent : ℕ → List ℕ → Bytes
+sent kind args = kind ∷ length args ∷ 0 ∷ 0 ∷ pad 16 0 (gather word args)
+
+abbrev pub row : ℕ → List ℕ → Bytes
+row number values = word number ++ (word (length values) ++ pad 16 0 (gather word values))
+
+-- a record, the answer's number, and the rows
+pub record Line : Type 0 where
+  pub bytes : Bytes
+  pub number : ℕ
+  pub rows : List Bytes
+
+abbrev line : Bytes → ℕ → List Bytes → Line
+line bytes number rows = record { bytes = bytes; number = number; rows = rows }
+
 pub data Entry : Type 0 where
-  -- an accepted text, the events of a case, and its answers
-  runs : String → Case → Entry
+  -- an accepted text and the records sent under it
+  runs : String → List Line → Entry
   -- a text and the number and place of its reading
   reads : String → (number place : ℕ) → Entry
+
+-- what comes back for a record: the answer's number, the count of rows, and the bytes in the buffer
+pub record Back : Type 0 where
+  pub number : ℕ
+  pub count : ℕ
+  pub written : Bytes
 
 pub record Outcome : Type 0 where
   pub number : ℕ
   pub place : ℕ
-  pub rows : List Answer
+  pub lines : List Back
 
--- what the definitions give
+-- a call that lends the record, 48 bytes for rows, from place 0, and an empty tally
+abbrev pub callOf : Line → Call
+callOf l = event (record { bytes = l .bytes; buffer = replicate 48 255; place = 0; tally = record { accepted = 0; refused = 0; rows = 0 } })
+
+abbrev pub backOf : Made → Back
+backOf m = record { number = numberOf (m .taken .answer); count = m .taken .rows; written = m .buffer }
+
+-- what the definitions that the contracts cite give
 abbrev pub outcome : Entry → Outcome
-outcome (runs t c) =
-    let o = readingOf (ascii t) in
-    record { number = o .number; place = o .place; rows = answers (bookOf (tracematch o)) [] (c .events) }
-outcome (reads t n p) = let o = readingOf (ascii t) in record { number = o .number; place = o .place; rows = [] }
+outcome (runs t ls) =
+    let r = reading (ascii t) in
+    record { number = Reading.numberOf (r .answer); place = Reading.placeOf (r .answer); lines = map backOf (runOf (r .book) (map callOf ls)) }
+outcome (reads t n p) =
+    let r = reading (ascii t) in record { number = Reading.numberOf (r .answer); place = Reading.placeOf (r .answer); lines = [] }
 
--- what document 01 says
+-- what document 01 says: the rows at the buffer's beginning, all else as lent
+abbrev pub wantedBack : Line → Back
+wantedBack l =
+    let rows = gather (λ r. r) (l .rows) in
+    record { number = l .number; count = length (l .rows); written = rows ++ replicate (48 - length rows) 255 }
+
 abbrev pub wanted : Entry → Outcome
-wanted (runs t c) = record { number = 0; place = 0; rows = c .expected }
-wanted (reads t n p) = record { number = n; place = p; rows = [] }
+wanted (runs t ls) = record { number = 0; place = 0; lines = map wantedBack ls }
+wanted (reads t n p) = record { number = n; place = p; lines = [] }
+
+-- the records of B1 and B2, variables d and s
+abbrev load : ℕ → ℕ → Bytes
+load d s = sent 1 (d ∷ s ∷ [])
+
+abbrev drop : ℕ → Bytes
+drop d = sent 2 (d ∷ [])
+
+abbrev clean : ℕ → Bytes
+clean d = sent 3 (d ∷ [])
+
+abbrev opened : ℕ → Bytes
+opened d = sent 5 (d ∷ [])
+
+abbrev fill : ℕ → ℕ → Bytes
+fill d s = sent 1 (d ∷ s ∷ [])
+
+abbrev seal : ℕ → ℕ → Bytes
+seal d s = sent 6 (d ∷ s ∷ [])
 
 unfoldable pub table : List Entry
 table =
-    runs "vars d s\nsym load 1 d s\nsym drop 2 d\nsym clean 3 d\nmatch load drop+\n" listing
-    ∷ runs "vars d s\nsym load 1 d s\nsym drop 2 d\nsym clean 3 d\nmatch load drop+\n" unknownKind
-    ∷ runs "vars\nsym a 1 _\nsym b 1 _\nmatch a b\n" overlapping
-    ∷ runs "vars d s\nsym load 1 d s\nsym drop 2 d\nsym clean 3 d\nmatch load* load drop\n" oneRow
-    ∷ runs "vars d s\nsym open 5 d\nsym fill 1 d s\nsym seal 6 d s\nmatch open seal\n" excluded
-    ∷ runs "vars d s\nsym open 5 d\nsym fill 1 d s\nsym seal 6 d s\nmatch open seal\n" sixExcluded
+    -- "Events load(1,7), load(2,8), drop(1), clean(2), drop(2), drop(1) print, whole"
+    runs "vars d s\nsym load 1 d s\nsym drop 2 d\nsym clean 3 d\nmatch load drop+\n"
+    (line (load 1 7) 0 [] ∷ line (load 2 8) 0 [] ∷ line (drop 1) 0 (row 3 (1 ∷ 7 ∷ []) ∷ []) ∷ line (clean 2) 0 [] ∷ line (drop 2) 0 []
+    ∷ line (drop 1) 0 (row 6 (1 ∷ 7 ∷ []) ∷ []) ∷ [])
+    -- "B1, load(1,7), a kind-9 event, drop(1): row 1 7."
+    ∷ runs "vars d s\nsym load 1 d s\nsym drop 2 d\nsym clean 3 d\nmatch load drop+\n"
+    (line (load 1 7) 0 [] ∷ line (sent 9 []) 0 [] ∷ line (drop 1) 0 (row 3 (1 ∷ 7 ∷ []) ∷ []) ∷ [])
+    -- "No variables, `sym a 1 _`, `sym b 1 _`, `match a b`: two kind-1 events of one argument give nothing, then the empty valuation."
+    ∷ runs "vars\nsym a 1 _\nsym b 1 _\nmatch a b\n" (line (sent 1 (4 ∷ [])) 0 [] ∷ line (sent 1 (5 ∷ [])) 0 (row 2 [] ∷ []) ∷ [])
+    -- "Pattern `load* load drop`, load(1,7) twice, drop(1): one row."
+    ∷ runs "vars d s\nsym load 1 d s\nsym drop 2 d\nsym clean 3 d\nmatch load* load drop\n"
+    (line (load 1 7) 0 [] ∷ line (load 1 7) 0 [] ∷ line (drop 1) 0 (row 3 (1 ∷ 7 ∷ []) ∷ []) ∷ [])
+    -- "open(1), fill(1,7), seal(1,7), seal(1,8): only the last gives a row, 1 8."
+    ∷ runs "vars d s\nsym open 5 d\nsym fill 1 d s\nsym seal 6 d s\nmatch open seal\n"
+    (line (opened 1) 0 [] ∷ line (fill 1 7) 0 [] ∷ line (seal 1 7) 0 [] ∷ line (seal 1 8) 0 (row 4 (1 ∷ 8 ∷ []) ∷ []) ∷ [])
+    -- "B2, open(1), fill(1,1) to fill(1,6): 0. Then fill(1,7): 12; seal(1,6): 0, no row; seal(1,9): 12."
+    ∷ runs "vars d s\nsym open 5 d\nsym fill 1 d s\nsym seal 6 d s\nmatch open seal\n"
+    (line (opened 1) 0 [] ∷ line (fill 1 1) 0 [] ∷ line (fill 1 2) 0 [] ∷ line (fill 1 3) 0 [] ∷ line (fill 1 4) 0 [] ∷ line (fill 1 5) 0 []
+    ∷ line (fill 1 6) 0 [] ∷ line (fill 1 7) 12 [] ∷ line (seal 1 6) 0 [] ∷ line (seal 1 9) 12 [] ∷ [])
     -- "`vars d`, `sym a 1 d`: `match a*` is 7 at 23; `match b` 5 at 23; `match (a` 6 at 25; 17 parentheses 3 at 39, 16 accepted."
     ∷ reads "vars d\nsym a 1 d\nmatch a*\n" 7 23
     ∷ reads "vars d\nsym a 1 d\nmatch b\n" 5 23

@@ -1,0 +1,150 @@
+-- What the event call hands back and leaves in the buffer, by the three ways in which it ends: refused before the rows are placed,
+-- refused for want of space, accepted. For `event` and `fits`.
+use mathlib.Core.Path.{_≡_, refl, sym, ap, ap₂, _∙_}
+use mathlib.Core.Bool.{Bool, true, false, cond}
+use mathlib.Core.List.{List, List·Memᴰ}
+use Prim.Native.Nat.{ℕ, suc, _+_, _-_, _*_, _/_, _≤_, _<_}
+use native.Mathlib.Omega.{arith}
+use borrow.Author.Tests.{leb-true, leb-false, le-leb, lt-leb, lt-ltb, le-ltb}
+use lib.Dec.{leb}
+use lib.ListN.{length, take}
+use Rattle.laws.specs.Lists.{gather}
+use Rattle.laws.specs.Parts.{splice}
+use Rattle.laws.proofs.Lists.{same-test, mem-map}
+use Rattle.laws.proofs.Maps.{gather-agree, gather-map}
+use Rattle.meaning.specs.Events.{Valuation}
+use Rattle.work.specs.Wide.{wideValuation}
+use Rattle.form.specs.Text.{Bytes}
+use Rattle.record.specs.Records.{eventIn}
+use Rattle.book.specs.declared.Book.{Book}
+use Rattle.state.specs.declared.State.{State}
+use Rattle.state.specs.States.{stateOf, viewState}
+use Rattle.sound.specs.Soundness.{bookSound}
+use Rattle.rows.specs.Valuations.{valuationsIn}
+use Rattle.rows.proofs.Valuations as Words
+use Rattle.writer.specs.RowBytes.{rowBytes}
+use Rattle.writer.proofs.RowBytes.{row-wide}
+use Rattle.tally.specs.declared.Tally.{Tally}
+use Rattle.tally.specs.Tallies.{tallied}
+use Rattle.watch.specs.Answers.{numberOf, answerOf}
+use Rattle.watch.specs.Calls.{isAccepted, rowsBy, stateBy, Moved, unsound, outOfForm, tooMany, noRoom, noSpace, answerTo, taken, bufferAfter}
+use Rattle.watch.specs.declared.Answer.{Answer}
+use Rattle.watch.specs.declared.Answer.the-variants.{Accepted, Unsound, OutOfForm, TooMany, NoRoom, NoSpace}
+use Rattle.watch.specs.declared.Taken.{Taken}
+use Rattle.watch.proofs.Checks.{stepNumber, number-book, BookSound, book-facts}
+use Rattle.watch.proofs.Steps.{mem-take, pad-few}
+
+-- the answer of the checks 9 to 12, and a where none of them fails
+abbrev four : (p q m n : Bool) → Answer → Answer
+four p q m n a = cond p Unsound (cond q OutOfForm (cond m TooMany (cond n NoRoom a)))
+
+-- one of the first four fails: the fifth is not looked at, and the answer is told by its number
+four-refused : (p q m n : Bool) (a : Answer) → (numberOf (four p q m n Accepted) ≡ 0 → ⊥)
+    → (four p q m n a ≡ answerOf (numberOf (four p q m n Accepted))) × (isAccepted (four p q m n a) ≡ false)
+unfolding answerOf
+four-refused true q m n a h = (refl, refl)
+four-refused false true m n a h = (refl, refl)
+four-refused false false true n a h = (refl, refl)
+four-refused false false false true a h = (refl, refl)
+four-refused false false false false a h = absurd (h refl)
+
+-- none of them fails
+four-passed : (p q m n : Bool) (a : Answer) → numberOf (four p q m n Accepted) ≡ 0 → four p q m n a ≡ a
+four-passed true q m n a h = absurd (omega arith)
+four-passed false true m n a h = absurd (omega arith)
+four-passed false false true n a h = absurd (omega arith)
+four-passed false false false true a h = absurd (omega arith)
+four-passed false false false false a h = refl
+
+-- where no check before the buffer's fails the book is sound
+pub passed-sound : (b : Book) (s : State) (r : Bytes) → stepNumber b s r ≡ 0 → BookSound b
+passed-sound b s r h = book-facts b (go (bookSound b) refl)
+  where
+    go : (t : Bool) → bookSound b ≡ t → bookSound b ≡ true
+    go true e = e
+    go false e = absurd (let z = number-book b s r e in omega arith)
+
+module _ (b : Book) (s : State) (r buffer : Bytes) (place : ℕ) where
+  -- the answer of the buffer's check
+  abbrev last : Answer
+  last = cond (noSpace b s r buffer place) NoSpace Accepted
+
+  answer-refused : (stepNumber b s r ≡ 0 → ⊥) → (answerTo b s r buffer place ≡ answerOf (stepNumber b s r)) × (isAccepted (answerTo b s r buffer place) ≡ false)
+  unfolding answerTo
+  answer-refused h = four-refused (unsound b s r) (outOfForm b s r) (tooMany b s r) (noRoom b s r) last h
+
+  answer-passed : stepNumber b s r ≡ 0 → answerTo b s r buffer place ≡ last
+  unfolding answerTo
+  answer-passed h = four-passed (unsound b s r) (outOfForm b s r) (tooMany b s r) (noRoom b s r) last h
+
+  -- what `refused` hands back
+  abbrev refusal : Tally → ℕ → Taken
+  refusal t n = record { answer = answerOf n; rows = 0; book = b; state = s; tally = tallied t 0 1 0 }
+
+  -- a refusal, whatever its number
+  ends-not : (t : Tally) (n : ℕ) → answerTo b s r buffer place ≡ answerOf n → isAccepted (answerTo b s r buffer place) ≡ false → {x : Taken} → x ≡ refusal t n
+      → (x ≡ taken b s r buffer place t) × (buffer ≡ bufferAfter b s r buffer place)
+  unfolding taken bufferAfter
+  ends-not t n h k e = (e ∙ rw (k, h), rw k)
+
+  -- refused by one of the checks before the buffer's
+  pub ends-refused : (t : Tally) (n : ℕ) → n ≡ stepNumber b s r → (n ≡ 0 → ⊥) → {x : Taken} → x ≡ refusal t n
+      → (x ≡ taken b s r buffer place t) × (buffer ≡ bufferAfter b s r buffer place)
+  ends-refused t n e h =
+      let a = answer-refused (λ z. h (e ∙ z)) in
+      ends-not t n (a .0 ∙ ap answerOf (sym e)) (a .1)
+
+  -- the state after an accepted event and the words that hold its rows
+  module _ (passed : stepNumber b s r ≡ 0) (next : State) (n : ℕ) (words : List ℕ) (moved : Moved b s (eventIn r) next n words) where
+    -- refused by the buffer's check
+    pub ends-short : (t : Tally) → leb (place + 24 * n) (length buffer) ≡ false → {x : Taken} → x ≡ refusal t 13
+        → (x ≡ taken b s r buffer place t) × (buffer ≡ bufferAfter b s r buffer place)
+    unfolding noSpace answerOf
+    ends-short t h =
+        let k = leb-false (place + 24 * n) (length buffer) h in
+        let a : answerTo b s r buffer place ≡ NoSpace =
+        answer-passed passed ∙ ap (λ x. cond x NoSpace Accepted) (lt-ltb (length buffer) (place + 24 * length (rowsBy b s (eventIn r))) (rw (← moved .counted) k)) in
+        ends-not t 13 a (ap isAccepted a)
+
+    accepted : leb (place + 24 * n) (length buffer) ≡ true → answerTo b s r buffer place ≡ Accepted
+    unfolding noSpace
+    accepted h =
+        let k = leb-true (place + 24 * n) (length buffer) h in
+        answer-passed passed ∙ ap (λ x. cond x NoSpace Accepted) (le-ltb (length buffer) (place + 24 * length (rowsBy b s (eventIn r))) (rw (← moved .counted) k))
+
+    next-number : next .number ≡ suc (s .number)
+    unfolding stateBy stateOf viewState
+    next-number = ap (λ x. x .number) (moved .after)
+
+    -- a row has at most four values, as the words that hold it
+    row-few : (σ : Valuation) → List·Memᴰ σ (rowsBy b s (eventIn r)) → length σ ≤ 4
+    unfolding wideValuation
+    row-few σ m =
+        pad-few 4 0 σ
+        (Words.wide-in words (wideValuation σ) (mem-take n (rw (moved .listed) (mem-map wideValuation (wideValuation σ) (rowsBy b s (eventIn r)) .1 (σ, m, refl)))))
+
+    rows-written : gather (rowBytes (next .number) (b .variables)) (take n (valuationsIn words)) ≡ gather (rowBytes (suc (s .number)) (b .variables)) (rowsBy b s (eventIn r))
+    unfolding wideValuation
+    rows-written =
+        let f = rowBytes (suc (s .number)) (b .variables) in
+        let l = rowsBy b s (eventIn r) in
+        ap₂ (λ k x. gather (rowBytes k (b .variables)) x) next-number (moved .listed) ∙ gather-map f wideValuation l
+        ∙ gather-agree (λ σ. f (wideValuation σ)) f l (λ σ m. row-wide (suc (s .number)) (b .variables) σ (row-few σ m))
+
+    -- accepted
+    pub ends-accepted : (t : Tally) → leb (place + 24 * n) (length buffer) ≡ true → {u : Tally} → u ≡ tallied t 1 0 n
+        → {out : Bytes} → out ≡ splice place (gather (rowBytes (next .number) (b .variables)) (take n (valuationsIn words))) buffer
+        → (record { answer = Accepted; rows = n; book = b; state = next; tally = u } ≡ taken b s r buffer place t) × (out ≡ bufferAfter b s r buffer place)
+    unfolding taken bufferAfter
+    ends-accepted t h e f =
+        let a = accepted h in
+        (rw (e, a, ← moved .counted, ← moved .after), f ∙ rw (a, rows-written))
+
+-- whether the rows fit, as the code tests it
+pub fits-behind : (size place rows : ℕ) → place ≤ size → leb rows ((size - place) / 24) ≡ leb (place + 24 * rows) size
+fits-behind size place rows h =
+    same-test _ _ (λ e. le-leb (place + 24 * rows) size (omega (arith, leb-true rows ((size - place) / 24) e)))
+    (λ e. le-leb rows ((size - place) / 24) (omega (arith, leb-true (place + 24 * rows) size e)))
+
+pub fits-not : (size place rows : ℕ) → size < place → false ≡ leb (place + 24 * rows) size
+fits-not size place rows h = sym (lt-leb (place + 24 * rows) size (omega arith))

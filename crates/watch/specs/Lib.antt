@@ -1,0 +1,5 @@
+-- What the public calls give: Answers (document 01's number of each answer), Calls (one event call, decided whole), Runs (lists of
+-- calls, and what demands 2 and 3 say of them).
+pub mod Answers
+pub mod Calls
+pub mod Runs
