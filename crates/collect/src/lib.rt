@@ -26,7 +26,8 @@ ghost use Rattle.rows.specs.Valuations.{valuationsIn, rowsGrown};
 // The row that d gives with c, put among the first m.
 fn add_row(out: &mut [u32; 8256], m: usize, d: Disjunct, c: Constraint) -> usize
     requires { ⌜ (m ≤ rowLimit) × Ready c × (ascending compareValuations (take m (valuationsIn (now out))) ≡ true) ⌝ }
-    ensures { λ r. ⌜ rowsGrown r (now (out .exit)) ≡ rowsWith (viewConstraint c) (viewDisjunct d ∷ []) (Grown.grown (take m (valuationsIn (now (out .entry))))) ⌝ }
+    ensures { λ r. ⌜ rowsGrown r (now (out .exit)) ≡ rowsWith (viewConstraint c) (viewDisjunct d ∷ [])
+        (Grown.grown (take m (valuationsIn (now (out .entry))))) ⌝ }
 {
     let x = d.meet(c);
     if x.ok {
@@ -151,7 +152,8 @@ fn free_at(
     v: usize,
 ) -> bool
     requires { ⌜ (n ≤ 128) × (q ≤ 31) × (v ≤ 4) × Ready c ⌝ }
-    ensures { λ r. ⌜ r ≡ freeIn v (viewConstraint c) (withStart begins (pick (λ x. bit q x) (take n (now (masks .entry))) (take n (disjunctsIn (now (held .entry)))))) ⌝ }
+    ensures { λ r. ⌜ r ≡ freeIn v (viewConstraint c)
+        (withStart begins (pick (λ x. bit q x) (take n (now (masks .entry))) (take n (disjunctsIn (now (held .entry)))))) ⌝ }
 {
     if begins {
         if free_met(Disjunct::free(), c, v) {

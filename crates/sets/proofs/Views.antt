@@ -1,4 +1,4 @@
--- The slots of the code against the entries in the words: what `slot_at` makes of seven words, and what `put_slot` and `put` write.
+-- The slots of the code against the entries in the words: what `read_slot` makes of seven words, and what `put_slot` and `put` write.
 use mathlib.Core.Path.{_≡_, refl, sym, ap, _∙_}
 use mathlib.Core.Bool.{true, false}
 use mathlib.Core.List.{List, [], _∷_, map}
@@ -20,7 +20,7 @@ retaken zero l = refl
 retaken (suc c) [] = refl
 retaken (suc c) (x ∷ l) = ap (λ r. x ∷ r) (retaken c l)
 
--- `slot_at`: a value, or so many of the six words behind the count
+-- `read_slot`: a value, or so many of the six words behind the count
 pub read-bound : (w : List ℕ) (at : ℕ) (r : Slot) → at + 7 ≤ length w → getD w at 0 ≡ 7 → r ≡ slotOf (bound (getD w (at + 1) 0)) → viewSlot r ≡ entryAt w at
 unfolding viewSlot slotOf
 read-bound w at r h e p = rw p (sym (entry-bound w at h e))

@@ -1,5 +1,5 @@
 -- Lent words read as entries and as disjuncts: what stands where, and what a store of seven words, or of four entries, does.
--- For `slot_at`, `get`, `put_slot` and `put`: every other proof knows the words as a list of disjuncts only.
+-- For `read_slot`, `get`, `put_slot` and `put`: every other proof knows the words as a list of disjuncts only.
 use mathlib.Core.Path.{_≡_, sym, ap, ap₂, _∙_}
 use mathlib.Core.Bool.{Bool, cond, true, false}
 use mathlib.Core.List.{List, [], _∷_, map}

@@ -21,7 +21,7 @@ struct Place {
 }
 
 // What the seven words from `at` on say of a variable. A slice, since that is where the array's length is known.
-fn slot_at(words: &[u32], at: usize) -> Slot
+fn read_slot(words: &[u32], at: usize) -> Slot
     requires { ⌜ at + 7 ≤ length (now words) ⌝ }
     ensures { λ r. ⌜ viewSlot r ≡ entryAt (now (words .entry)) at ⌝ }
 {
@@ -51,10 +51,10 @@ pub fn get(words: &[u32; 3584], i: usize) -> Disjunct
     ensures { λ r. ⌜ viewDisjunct r ≡ getD (disjunctsIn (now (words .entry))) i [] ⌝ }
 {
     let at = i * 28;
-    let a = slot_at(words, at);
-    let b = slot_at(words, at + 7);
-    let c = slot_at(words, at + 14);
-    let d = slot_at(words, at + 21);
+    let a = read_slot(words, at);
+    let b = read_slot(words, at + 7);
+    let c = read_slot(words, at + 14);
+    let d = read_slot(words, at + 21);
     Disjunct { vars: [a, b, c, d] }
 }
 
@@ -163,7 +163,8 @@ pub fn insert(words: &mut [u32; 3584], n: usize, d: Disjunct) -> usize
 // The first n disjuncts of one set written behind the first `at` of another.
 pub fn append(from: &[u32; 3584], n: usize, words: &mut [u32; 3584], at: usize)
     requires { ⌜ at + n ≤ 128 ⌝ }
-    ensures { λ _. ⌜ take (at + n) (disjunctsIn (now (words .exit))) ≡ take at (disjunctsIn (now (words .entry))) ++ take n (disjunctsIn (now (from .entry))) ⌝ }
+    ensures { λ _. ⌜ take (at + n) (disjunctsIn (now (words .exit)))
+        ≡ take at (disjunctsIn (now (words .entry))) ++ take n (disjunctsIn (now (from .entry))) ⌝ }
 {
     let mut i: usize = 0;
     while i < n {
@@ -176,7 +177,8 @@ pub fn append(from: &[u32; 3584], n: usize, words: &mut [u32; 3584], at: usize)
 // The first k disjuncts of one set put among the first m of another.
 pub fn join(words: &mut [u32; 3584], m: usize, from: &[u32; 3584], k: usize) -> usize
     requires { ⌜ (m ≤ 128) × (k ≤ 128) × (ascending compareDisjuncts (take m (disjunctsIn (now words))) ≡ true) ⌝ }
-    ensures { λ r. ⌜ grownIn r (now (words .exit)) ≡ within 128 (insertAll compareDisjuncts (take k (disjunctsIn (now (from .entry)))) (take m (disjunctsIn (now (words .entry))))) ⌝ }
+    ensures { λ r. ⌜ grownIn r (now (words .exit)) ≡ within 128
+        (insertAll compareDisjuncts (take k (disjunctsIn (now (from .entry)))) (take m (disjunctsIn (now (words .entry))))) ⌝ }
 {
     let mut n = m;
     let mut i: usize = 0;

@@ -66,7 +66,8 @@ fn skip_from(d: Disjunct, c: Constraint, i: usize, out: &mut [u32; 3584], m: usi
 // What d gives past c: d itself where they do not meet; else one disjunct for each variable of c free in d.
 fn skip_one(d: Disjunct, c: Constraint, out: &mut [u32; 3584], m: usize) -> usize
     requires { ⌜ (m ≤ 128) × Ready c × (fewExclusions (viewDisjunct d) ≡ true) × (ascending compareDisjuncts (take m (disjunctsIn (now out))) ≡ true) ⌝ }
-    ensures { λ r. ⌜ grownIn r (now (out .exit)) ≡ growFew (skipOne (viewConstraint c) (viewDisjunct d)) (Grown.grown (take m (disjunctsIn (now (out .entry))))) ⌝ }
+    ensures { λ r. ⌜ grownIn r (now (out .exit)) ≡ growFew (skipOne (viewConstraint c) (viewDisjunct d))
+        (Grown.grown (take m (disjunctsIn (now (out .entry))))) ⌝ }
 {
     let x = d.meet(c);
     if x.ok {

@@ -55,7 +55,12 @@ pub record Made : Type 0 where
 
 -- the call in a state
 unfoldable pub make : Book → State → Call → Made
-make b s (event l) = record { lent = l; taken = taken b s (l .bytes) (l .buffer) (l .place) (l .tally); buffer = bufferAfter b s (l .bytes) (l .buffer) (l .place) }
+make b s (event l) =
+    record {
+      lent = l;
+      taken = taken b s (l .bytes) (l .buffer) (l .place) (l .tally);
+      buffer = bufferAfter b s (l .bytes) (l .buffer) (l .place);
+    }
 
 -- "Each call gets the state that the call before it returned or left (after a refusal, the same one)."
 abbrev pub runFrom : Book → State → List Call → List Made

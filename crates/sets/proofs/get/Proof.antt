@@ -10,34 +10,34 @@ use Rattle.sets.proofs.get.Tie as tie
 mul-at : tie.Need-mul-at
 mul-at c = search needs
 
-slot-at-requires : tie.Need-slot-at-requires
-slot-at-requires c κs = search needs
+read-slot-requires : tie.Need-read-slot-requires
+read-slot-requires c κs = search needs
 
-add-slot-at : tie.Need-add-slot-at
-add-slot-at c = search needs
+add-read-slot : tie.Need-add-read-slot
+add-read-slot c = search needs
 
-slot-at-requires-2 : tie.Need-slot-at-requires-2
-slot-at-requires-2 c κs = search needs
+read-slot-requires-2 : tie.Need-read-slot-requires-2
+read-slot-requires-2 c κs = search needs
 
-add-slot-at-2 : tie.Need-add-slot-at-2
-add-slot-at-2 c = search needs
+add-read-slot-2 : tie.Need-add-read-slot-2
+add-read-slot-2 c = search needs
 
-slot-at-requires-3 : tie.Need-slot-at-requires-3
-slot-at-requires-3 c κs = search needs
+read-slot-requires-3 : tie.Need-read-slot-requires-3
+read-slot-requires-3 c κs = search needs
 
-add-slot-at-3 : tie.Need-add-slot-at-3
-add-slot-at-3 c = search needs
+add-read-slot-3 : tie.Need-add-read-slot-3
+add-read-slot-3 c = search needs
 
-slot-at-requires-4 : tie.Need-slot-at-requires-4
-slot-at-requires-4 c κs = search needs
+read-slot-requires-4 : tie.Need-read-slot-requires-4
+read-slot-requires-4 c κs = search needs
 
 returns : tie.Need-returns
 returns c =
     let s = c .before .before .before .before .before .before .before .before in
     view-four _ _ _ _
-    ∙ ap₂ (λ a r. a ∷ r) (c .before .before .before .before .before .before .slot-at .ensures)
-    (ap₂ (λ a r. a ∷ r) (c .before .before .before .before .slot-at2 .ensures)
-    (ap₂ (λ a r. a ∷ r) (c .before .before .slot-at3 .ensures) (ap (λ a. a ∷ []) (c .slot-at4 .ensures))))
+    ∙ ap₂ (λ a r. a ∷ r) (c .before .before .before .before .before .before .read-slot .ensures)
+    (ap₂ (λ a r. a ∷ r) (c .before .before .before .before .read-slot2 .ensures)
+    (ap₂ (λ a r. a ∷ r) (c .before .before .read-slot3 .ensures) (ap (λ a. a ∷ []) (c .read-slot4 .ensures))))
     ∙ sym (disjuncts-at (s .args .words .now) (s .args .i) (s .pre))
 
 pub get-spec : {M : Type 1} → statement M
@@ -45,11 +45,11 @@ get-spec =
     tie.close
     (tie.spec
     mul-at
-    slot-at-requires
-    add-slot-at
-    slot-at-requires-2
-    add-slot-at-2
-    slot-at-requires-3
-    add-slot-at-3
-    slot-at-requires-4
+    read-slot-requires
+    add-read-slot
+    read-slot-requires-2
+    add-read-slot-2
+    read-slot-requires-3
+    add-read-slot-3
+    read-slot-requires-4
     returns)

@@ -1,9 +1,9 @@
--- `sets::slot_at` meets its contract: the seven words are those of the entry.
+-- `sets::read_slot` meets its contract: the seven words are those of the entry.
 use native.Mathlib.Omega.{arith}
 use borrow.Author.Needs.{needs}
 use Rattle.sets.proofs.Views.{read-bound, read-free}
-use Rattle.sets.proofs.slot_at.Statement.{statement}
-use Rattle.sets.proofs.slot_at.Tie as tie
+use Rattle.sets.proofs.read_slot.Statement.{statement}
+use Rattle.sets.proofs.read_slot.Tie as tie
 
 mul-code : tie.Need-mul-code
 mul-code c = search needs
@@ -81,8 +81,8 @@ returns-2 c =
     let s = c .before .before .before .before .before .before .before .before .before in
     read-free (s .args .words .now) (s .args .at) (s .pre) (c .before .before .before .before .before .if1 .left)
 
-pub slot-at-spec : {M : Type 1} → statement M
-slot-at-spec =
+pub read-slot-spec : {M : Type 1} → statement M
+read-slot-spec =
     tie.close
     (tie.spec
     mul-code
