@@ -1,4 +1,4 @@
-// The tally by value: accepted events, refused events and rows written; a counter stops at the largest 64-bit value.
+// The tally: accepted events, refused events and rows written, by value, and lent in one function; a counter stops at the largest 64-bit value.
 ghost use mathlib.Core.Path.{_≡_};
 ghost use Rattle.tally.specs.Tallies.{capped, tallied};
 
@@ -39,4 +39,11 @@ impl Tally {
             rows: up(self.rows, rows),
         }
     }
+}
+
+// The counters of a lent tally, changed there.
+pub fn count(t: &mut Tally, accepted: u64, refused: u64, rows: u64)
+    ensures { λ _. ⌜ now (t .exit) ≡ tallied (now (t .entry)) accepted refused rows ⌝ }
+{
+    *t = t.added(accepted, refused, rows);
 }

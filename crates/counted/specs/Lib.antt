@@ -1,0 +1,2 @@
+-- What the event call with a lent tally hands back.
+pub mod Given
