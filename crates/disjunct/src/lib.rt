@@ -112,7 +112,7 @@ impl Disjunct {
         ensures { λ r. ⌜ r ≡ rank (lex compare (map Labels.valueKey (viewDisjunct self)) (map Labels.valueKey (viewDisjunct other))) ⌝ }
     {
         let mut i: usize = 0;
-        while i < 4 {
+        while i < Disjunct::VARIABLES {
             let s = self.vars[i];
             let t = other.vars[i];
             let o = s.compare_values(t);
@@ -129,7 +129,7 @@ impl Disjunct {
         ensures { λ r. ⌜ r ≡ rank (lex (lex compare) (map Labels.exclusions (viewDisjunct self)) (map Labels.exclusions (viewDisjunct other))) ⌝ }
     {
         let mut i: usize = 0;
-        while i < 4 {
+        while i < Disjunct::VARIABLES {
             let s = self.vars[i];
             let t = other.vars[i];
             let o = s.compare_exclusions(t);
@@ -173,7 +173,7 @@ impl Disjunct {
     {
         let mut r = [0u32; 4];
         let mut i: usize = 0;
-        while i < 4 {
+        while i < Disjunct::VARIABLES {
             let s = self.vars[i];
             if s.bound {
                 r[i] = s.value;

@@ -70,7 +70,7 @@ fn sound_slot(s: Slot) -> bool
     if s.bound {
         return n == 0;
     }
-    if 6 < n {
+    if Disjunct::EXCLUSIONS < n {
         return false;
     }
     ascends(xs, n)

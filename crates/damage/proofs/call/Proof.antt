@@ -1,0 +1,61 @@
+-- `damage::call` is safe and ends: the parts that are lent are inside the record and the buffer.
+use mathlib.Core.Path.{_≡_, sym}
+use native.Mathlib.Omega.{arith}
+use lib.ListN.{length}
+use lib.Seq.{length-take-le}
+use borrow.Author.Needs.{needs}
+use Rattle.damage.proofs.call.Statement.{statement}
+use Rattle.damage.proofs.call.Tie as tie
+
+array-share-prefix-bytes : tie.Need-array-share-prefix-bytes
+array-share-prefix-bytes c =
+    let l : length (c .before .before .before .args .l .bytes) ≡ 21 = search needs in
+    omega arith
+
+slice-aggregate-part : tie.Need-slice-aggregate-part
+slice-aggregate-part c =
+    let l : length (c .before .before .before .before .args .l .bytes) ≡ 21 = search needs in
+    sym (length-take-le _ _ (omega arith))
+
+slice-relend-prefix-event : tie.Need-slice-relend-prefix-event
+slice-relend-prefix-event c = search needs
+
+slice-aggregate-event : tie.Need-slice-aggregate-event
+slice-aggregate-event c = sym (length-take-le _ _ (omega arith))
+
+event-requires : tie.Need-event-requires
+event-requires c κs = search needs
+
+same-length : tie.Need-same-length
+same-length c = search needs
+
+returns : tie.Need-returns
+returns c = search needs
+
+slice-aggregate-event-2 : tie.Need-slice-aggregate-event-2
+slice-aggregate-event-2 c = search needs
+
+event-requires-2 : tie.Need-event-requires-2
+event-requires-2 c κs = search needs
+
+same-length-2 : tie.Need-same-length-2
+same-length-2 c = search needs
+
+returns-2 : tie.Need-returns-2
+returns-2 c = search needs
+
+pub call-spec : {M : Type 1} → statement M
+call-spec =
+    tie.close
+    (tie.spec
+    array-share-prefix-bytes
+    slice-aggregate-part
+    slice-relend-prefix-event
+    slice-aggregate-event
+    event-requires
+    same-length
+    returns
+    slice-aggregate-event-2
+    event-requires-2
+    same-length-2
+    returns-2)

@@ -1,0 +1,202 @@
+// Damage to the book of `main`: three symbols (the first with one place, the others with two), two variables, two positions.
+// Kind 0 leaves it, 1 to 14 take it out of what document 01 calls sound, 15 lets a word end at position 1, where `s` is free.
+use crate::draws;
+use book::Book;
+use table::Name;
+use table::Place;
+use table::Symbol;
+
+pub fn damaged(b: Book, kind: u32, x: u64, y: u64) -> Book {
+    if kind < 6 {
+        return miscounted(b, kind, x, y);
+    }
+    if kind < 10 {
+        return mismatched(b, kind, x, y);
+    }
+    if kind < 15 {
+        return misdeclared(b, kind, x, y);
+    }
+    let mut r = b;
+    r.ends = 2;
+    r
+}
+
+// A count out of its range.
+fn miscounted(b: Book, kind: u32, x: u64, y: u64) -> Book {
+    let mut r = b;
+    match kind {
+        1 => {
+            r.variables = draws::above(5, x);
+        }
+        2 => {
+            r.symbols = 0;
+        }
+        3 => {
+            r.symbols = draws::above(17, x);
+        }
+        4 => {
+            return without_positions(b, y);
+        }
+        5 => {
+            r.positions = draws::above(32, x);
+        }
+        _ => {}
+    }
+    r
+}
+
+// No position, and no word begins or ends either, one time in two.
+fn without_positions(b: Book, y: u64) -> Book {
+    let mut r = b;
+    r.positions = 0;
+    if y % 2 == 0 {
+        r.begins = 0;
+        r.ends = 0;
+    }
+    r
+}
+
+// The pattern's share: position 0, or one beyond the two, in a set; a symbol that is not declared; the empty word.
+fn mismatched(b: Book, kind: u32, x: u64, y: u64) -> Book {
+    if kind == 6 {
+        return marked(b, 1, y);
+    }
+    if kind == 7 {
+        return marked(b, 1 << (3 + y / 4 % 29), y);
+    }
+    let i = (y % 2) as usize;
+    let mut r = b;
+    if kind == 8 {
+        r.occurrences[i] = draws::above_short(3, x);
+        return r;
+    }
+    r.empty = true;
+    r
+}
+
+// A bit put into one of the sets of positions.
+fn marked(b: Book, bit: u32, y: u64) -> Book {
+    let mut r = b;
+    match y % 4 {
+        0 => {
+            r.begins = b.begins | bit;
+        }
+        1 => {
+            r.ends = b.ends | bit;
+        }
+        2 => {
+            r.follows[0] = b.follows[0] | bit;
+        }
+        _ => {
+            r.follows[1] = b.follows[1] | bit;
+        }
+    }
+    r
+}
+
+// One of the three symbols out of its range.
+fn misdeclared(b: Book, kind: u32, x: u64, y: u64) -> Book {
+    let i = (y % 3) as usize;
+    let s = b.table[i];
+    let mut r = b;
+    r.table[i] = symbol(s, kind, x, y / 3);
+    r
+}
+
+fn symbol(s: Symbol, kind: u32, x: u64, y: u64) -> Symbol {
+    let mut r = s;
+    if kind == 10 {
+        r.kind = 0;
+        return r;
+    }
+    if kind == 11 {
+        r.kind = draws::above_short(256, x);
+        return r;
+    }
+    if kind == 12 {
+        r.count = draws::above(5, x);
+        return r;
+    }
+    if s.count == 2 && y % 2 == 1 {
+        let p = s.places[1];
+        r.places[1] = argument(p, kind, x);
+        return r;
+    }
+    let p = s.places[0];
+    r.places[0] = argument(p, kind, x);
+    r
+}
+
+// A tag, or the number of a variable, that is out of range.
+fn argument(p: Place, kind: u32, x: u64) -> Place {
+    if kind == 13 {
+        return Place {
+            tag: draws::above_short(2, x),
+            number: p.number,
+        };
+    }
+    Place {
+        tag: 1,
+        number: draws::above_short(2, x),
+    }
+}
+
+// What no count reaches filled with x: names (which no event call reads), symbols, their places, positions.
+pub fn spare(b: Book, x: u64) -> Book {
+    let short = draws::short(x);
+    let p = Place {
+        tag: short,
+        number: short,
+    };
+    let n = Name {
+        start: x as usize,
+        size: x as usize,
+    };
+    let names = [n; 20];
+    let occurrences = b.occurrences;
+    let more_occurrences = words(occurrences, short);
+    let follows = b.follows;
+    let more_follows = words(follows, short);
+    let table = b.table;
+    let more_table = symbols(table, p, x);
+    let mut r = b;
+    r.names = names;
+    r.occurrences = more_occurrences;
+    r.follows = more_follows;
+    r.table = more_table;
+    r
+}
+
+fn words(a: [u32; 31], x: u32) -> [u32; 31] {
+    let mut r = [x; 31];
+    r[0] = a[0];
+    r[1] = a[1];
+    r
+}
+
+fn symbols(a: [Symbol; 16], p: Place, x: u64) -> [Symbol; 16] {
+    let other = Symbol {
+        kind: draws::short(x),
+        count: x as usize,
+        places: [p; 4],
+    };
+    let first = a[0];
+    let second = a[1];
+    let third = a[2];
+    let mut r = [other; 16];
+    r[0] = places(first, p);
+    r[1] = places(second, p);
+    r[2] = places(third, p);
+    r
+}
+
+// The places of a symbol beyond its one or two.
+fn places(s: Symbol, p: Place) -> Symbol {
+    let mut r = s;
+    r.places[2] = p;
+    r.places[3] = p;
+    if s.count == 1 {
+        r.places[1] = p;
+    }
+    r
+}

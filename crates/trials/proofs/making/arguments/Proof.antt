@@ -1,0 +1,56 @@
+-- `trials::making::arguments` is safe and ends: the turns are counted.
+use mathlib.Core.Path.{_≡_}
+use Prim.Native.Nat.{_-_}
+use lib.ListN.{length}
+use borrow.Author.Needs.{needs}
+use Rattle.trials.proofs.making.arguments.Statement.{statement}
+use Rattle.trials.proofs.making.arguments.Tie as tie
+
+abbrev Inv-loop : tie.InvT-loop
+Inv-loop seed x n domain narrow out₀ j₀ out j = length out ≡ length out₀
+
+abbrev μ-loop : tie.MeasureT-loop
+μ-loop seed x n domain narrow out₀ j₀ out j = 4 - j
+
+loop-holds : tie.Need-loop-holds Inv-loop μ-loop
+loop-holds c = search needs
+
+argument-requires : tie.Need-argument-requires Inv-loop μ-loop
+argument-requires c κs = search needs
+
+add-j : tie.Need-add-j Inv-loop μ-loop
+add-j c = search needs
+
+loop-less : tie.Need-loop-less Inv-loop μ-loop
+loop-less c = search needs
+
+loop-again : tie.Need-loop-again Inv-loop μ-loop
+loop-again c = search needs
+
+same-length : tie.Need-same-length Inv-loop μ-loop
+same-length c = search needs
+
+returns : tie.Need-returns Inv-loop μ-loop
+returns c = search needs
+
+same-length-2 : tie.Need-same-length-2 Inv-loop μ-loop
+same-length-2 c = search needs
+
+returns-2 : tie.Need-returns-2 Inv-loop μ-loop
+returns-2 c = search needs
+
+pub arguments-spec : {M : Type 1} → statement M
+arguments-spec =
+    tie.close
+    (tie.spec
+    Inv-loop
+    μ-loop
+    loop-holds
+    argument-requires
+    add-j
+    loop-less
+    loop-again
+    same-length
+    returns
+    same-length-2
+    returns-2)

@@ -1,0 +1,56 @@
+-- `trials::making::pattern` is safe and ends: each turn makes one node of those asked.
+use mathlib.Core.Path.{_≡_}
+use Prim.Native.Nat.{_-_}
+use lib.ListN.{length}
+use borrow.Author.Needs.{needs}
+use Rattle.trials.proofs.making.pattern.Statement.{statement}
+use Rattle.trials.proofs.making.pattern.Tie as tie
+
+abbrev Inv-loop : tie.InvT-loop
+Inv-loop seed symbols nodes₀ size k₀ nodes k = length nodes ≡ length nodes₀
+
+abbrev μ-loop : tie.MeasureT-loop
+μ-loop seed symbols nodes₀ size k₀ nodes k = size - k
+
+loop-holds : tie.Need-loop-holds Inv-loop μ-loop
+loop-holds c = search needs
+
+node-requires : tie.Need-node-requires Inv-loop μ-loop
+node-requires c κs = search needs
+
+add-k : tie.Need-add-k Inv-loop μ-loop
+add-k c = search needs
+
+loop-less : tie.Need-loop-less Inv-loop μ-loop
+loop-less c = search needs
+
+loop-again : tie.Need-loop-again Inv-loop μ-loop
+loop-again c = search needs
+
+same-length : tie.Need-same-length Inv-loop μ-loop
+same-length c = search needs
+
+returns : tie.Need-returns Inv-loop μ-loop
+returns c = search needs
+
+same-length-2 : tie.Need-same-length-2 Inv-loop μ-loop
+same-length-2 c = search needs
+
+returns-2 : tie.Need-returns-2 Inv-loop μ-loop
+returns-2 c = search needs
+
+pub pattern-spec : {M : Type 1} → statement M
+pattern-spec =
+    tie.close
+    (tie.spec
+    Inv-loop
+    μ-loop
+    loop-holds
+    node-requires
+    add-k
+    loop-less
+    loop-again
+    same-length
+    returns
+    same-length-2
+    returns-2)

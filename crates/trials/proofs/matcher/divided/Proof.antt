@@ -1,0 +1,54 @@
+-- `trials::matcher::divided` is safe and ends: the turns are counted.
+use Prim.Native.Nat.{_-_, _≤_}
+use borrow.Author.Needs.{needs}
+use Rattle.trials.proofs.matcher.divided.Statement.{statement}
+use Rattle.trials.proofs.matcher.divided.Tie as tie
+
+abbrev Inv-loop : tie.InvT-loop
+Inv-loop table a b from i j m₀ m = 0 ≤ m
+
+abbrev μ-loop : tie.MeasureT-loop
+μ-loop table a b from i j m₀ m = 17 - m
+
+loop-holds : tie.Need-loop-holds Inv-loop μ-loop
+loop-holds c = search needs
+
+cell-requires : tie.Need-cell-requires Inv-loop μ-loop
+cell-requires c κs = search needs
+
+cell-requires-2 : tie.Need-cell-requires-2 Inv-loop μ-loop
+cell-requires-2 c κs = search needs
+
+returns : tie.Need-returns Inv-loop μ-loop
+returns c = search needs
+
+add-m : tie.Need-add-m Inv-loop μ-loop
+add-m c = search needs
+
+loop-less : tie.Need-loop-less Inv-loop μ-loop
+loop-less c = search needs
+
+loop-again : tie.Need-loop-again Inv-loop μ-loop
+loop-again c = search needs
+
+returns-2 : tie.Need-returns-2 Inv-loop μ-loop
+returns-2 c = search needs
+
+returns-3 : tie.Need-returns-3 Inv-loop μ-loop
+returns-3 c = search needs
+
+pub divided-spec : {M : Type 1} → statement M
+divided-spec =
+    tie.close
+    (tie.spec
+    Inv-loop
+    μ-loop
+    loop-holds
+    cell-requires
+    cell-requires-2
+    returns
+    add-m
+    loop-less
+    loop-again
+    returns-2
+    returns-3)
