@@ -1,0 +1,13 @@
+-- Two demands are counted, on the variables 0 and 1.
+use mathlib.Core.Path.{refl}
+use native.Mathlib.Omega.{arith}
+use Rattle.constraint.specs.Constraints.{demandsIn}
+use Rattle.parts.proofs.demanding.Statement.{statement}
+use Rattle.parts.proofs.demanding.Tie as tie
+
+returns : tie.Need-returns
+unfolding demandsIn
+returns c = record { few = omega arith; within = refl }
+
+pub demanding-spec : {M : Type 1} → statement M
+demanding-spec = tie.close (tie.spec returns)
