@@ -1,11 +1,11 @@
--- `listing::take_all` is safe and ends: each turn takes at least one byte of the piece, as `record_end` ensures.
+-- `printing::take_all` is safe and ends: each turn takes at least one byte of the piece, as `record_end` ensures.
 -- The invariant: row buffer and output buffer keep their lengths. Nothing that `watch` promises is used.
 use mathlib.Core.Path.{_≡_}
 use Prim.Native.Nat.{_-_}
 use lib.ListN.{length}
 use borrow.Author.Needs.{needs}
-use Rattle.listing.proofs.take_all.Statement.{statement}
-use Rattle.listing.proofs.take_all.Tie as tie
+use Rattle.printing.proofs.take_all.Statement.{statement}
+use Rattle.printing.proofs.take_all.Tie as tie
 
 abbrev Inv-loop : tie.InvT-loop
 Inv-loop book piece rows₀ out₀ s₀ t₀ number₀ k₀ i₀ rows out s t number k i = (length rows ≡ length rows₀) × (length out ≡ length out₀)

@@ -1,8 +1,8 @@
--- `listing::list` is safe and ends: the measure is how many pieces may still be read.
+-- `printing::list` is safe and ends: the measure is how many pieces may still be read.
 -- Nothing has to hold from turn to turn, so the invariant is `Unit {0}`, the fact that says nothing.
 use borrow.Author.Needs.{needs}
-use Rattle.listing.proofs.list.Statement.{statement}
-use Rattle.listing.proofs.list.Tie as tie
+use Rattle.printing.proofs.list.Statement.{statement}
+use Rattle.printing.proofs.list.Tie as tie
 
 abbrev Inv-loop : tie.InvT-loop
 Inv-loop book piece₀ rows₀ out₀ run₀ more₀ turns₀ piece rows out run more turns = Unit {0}

@@ -1,0 +1,231 @@
+// The listing, for the programs `listing`, `refused` and `short`, which differ only in what the gate runs them on.
+// `print` reads `book.txt`; a refused text is printed as `book`, number, place. Otherwise it takes the events of
+// standard input, 20 bytes to each, and prints for each its number, the answer and the row count, then its rows.
+use book::Book;
+use state::State;
+use tally::Tally;
+ghost use Prim.Native.Nat.{_<_, _≤_};
+
+// What goes from piece to piece of the input, beside the buffers: the state, the tally, how many records there were, and how
+// many bytes of the output are gathered.
+struct Run {
+    state: State,
+    tally: Tally,
+    number: u64,
+    at: usize,
+}
+
+// The less of two numbers.
+fn least(a: usize, b: usize) -> usize
+    ensures { λ r. ⌜ (r ≤ a) × (r ≤ b) ⌝ }
+{
+    if a < b { a } else { b }
+}
+
+// The next record's number; it stops at the largest 64-bit value, which no input reaches.
+fn next(number: u64) -> u64 {
+    if number < u64::MAX {
+        return number + 1;
+    }
+    number
+}
+
+// Writes what is gathered.
+fn flush(out: &[u8], at: usize) {
+    if at <= out.len() {
+        io::write_all(1, &out[..at]);
+    }
+}
+
+// Writes what is gathered where less than a line's room is left.
+fn room(out: &[u8], at: usize) -> usize {
+    if at <= 65000 {
+        return at;
+    }
+    flush(out, at);
+    0
+}
+
+// One byte into the buffer.
+fn put(out: &mut [u8], at: usize, b: u8) -> usize {
+    if at < out.len() {
+        out[at] = b;
+        return at + 1;
+    }
+    at
+}
+
+// Some bytes into the buffer.
+fn put_all(out: &mut [u8], at: usize, bytes: &[u8]) -> usize {
+    let mut k = at;
+    let mut i: usize = 0;
+    while i < bytes.len() {
+        k = put(out, k, bytes[i]);
+        i += 1;
+    }
+    k
+}
+
+// A number in decimal.
+fn put_number(out: &mut [u8], at: usize, x: u64) -> usize {
+    let mut digits = [0u8; 20];
+    let n = io::decimal(x, &mut digits);
+    put_all(out, at, &digits[..n])
+}
+
+// A byte as a wider number, of which the bound is told.
+fn wide(x: u8) -> u64
+    ensures { λ r. ⌜ r ≤ 255 ⌝ }
+{
+    x as u64
+}
+
+// A byte of a row.
+fn byte(row: &[u8], at: usize) -> u64
+    ensures { λ r. ⌜ r ≤ 255 ⌝ }
+{
+    if at < row.len() {
+        return wide(row[at]);
+    }
+    0
+}
+
+// The value of a row's variable, one of four.
+fn value(row: &[u8], variable: usize) -> u64
+    requires { ⌜ variable ≤ 3 ⌝ }
+{
+    let at = 8 + variable * 4;
+    let a = byte(row, at);
+    let b = byte(row, at + 1);
+    let c = byte(row, at + 2);
+    let d = byte(row, at + 3);
+    a + b * 256 + c * 65536 + d * 16777216
+}
+
+// One row: `row` and the values.
+fn put_row(out: &mut [u8], at: usize, row: &[u8], variables: usize) -> usize {
+    let n = least(variables, 4);
+    let start = room(out, at);
+    let mut k = put_all(out, start, b"row");
+    let mut i: usize = 0;
+    while i < n {
+        k = put(out, k, b' ');
+        k = put_number(out, k, value(row, i));
+        i += 1;
+    }
+    put(out, k, b'\n')
+}
+
+// The rows of a record, 24 bytes to each.
+fn put_rows(out: &mut [u8], at: usize, rows: &[u8], count: usize, variables: usize) -> usize {
+    let n = least(count, rows.len() / 24);
+    let mut k = at;
+    let mut i: usize = 0;
+    while i < n {
+        let p = i * 24;
+        k = put_row(out, k, &rows[p..p + 24], variables);
+        i += 1;
+    }
+    k
+}
+
+// The line of a record: its number, the answer and the row count.
+fn put_line(out: &mut [u8], at: usize, number: u64, answer: usize, count: usize) -> usize {
+    let start = room(out, at);
+    let a = put_number(out, start, number);
+    let b = put(out, a, b' ');
+    let c = put_number(out, b, answer as u64);
+    let d = put(out, c, b' ');
+    let e = put_number(out, d, count as u64);
+    put(out, e, b'\n')
+}
+
+// Where the record that begins at i ends, in a piece of n bytes: after 20 bytes, or short at the end of the piece.
+fn record_end(i: usize, n: usize) -> usize
+    requires { ⌜ i < n ⌝ }
+    ensures { λ r. ⌜ (i < r) × (r ≤ n) ⌝ }
+{
+    if n - i < 20 { n } else { i + 20 }
+}
+
+// The records of a piece of the input, a last short one too: for each its line and its rows.
+fn take_all(book: Book, run: Run, piece: &[u8], rows: &mut [u8], out: &mut [u8]) -> Run {
+    let mut s = run.state;
+    let mut t = run.tally;
+    let mut number = run.number;
+    let mut k = run.at;
+    let mut i: usize = 0;
+    while i < piece.len() {
+        let e = record_end(i, piece.len());
+        let r = watch::event(book, s, &piece[i..e], rows, 0, t);
+        let a = r.answer;
+        number = next(number);
+        k = put_line(out, k, number, watch::number_of(a), r.rows);
+        k = put_rows(out, k, rows, r.rows, book.variables);
+        s = r.state;
+        t = r.tally;
+        i = e;
+    }
+    Run {
+        state: s,
+        tally: t,
+        number: number,
+        at: k,
+    }
+}
+
+// All records of standard input, in pieces of 64,000 bytes. A proved loop has to end, and nothing says that the input does, so the
+// pieces are counted down, from a number that no run uses up.
+fn list(book: Book) {
+    let mut piece_space = [0u8; 64000];
+    let mut rows_space = io::large_buffer();
+    let mut out_space = io::large_buffer();
+    let piece: &mut [u8] = &mut piece_space;
+    let rows: &mut [u8] = &mut rows_space;
+    let out: &mut [u8] = &mut out_space;
+    let mut run = Run {
+        state: watch::fresh(),
+        tally: Tally::none(),
+        number: 0,
+        at: 0,
+    };
+    let mut more = true;
+    let mut turns = u64::MAX;
+    while 0 < turns && more {
+        let n = io::read_full(0, piece);
+        run = take_all(book, run, &piece[..n], rows, out);
+        more = n == piece.len();
+        turns -= 1;
+    }
+    flush(out, run.at);
+}
+
+// A refused book.
+fn print_refused(number: usize, place: usize) {
+    io::write_all(1, b"book ");
+    io::print_decimal(1, number as u64);
+    io::write_all(1, b" ");
+    io::print_decimal(1, place as u64);
+    io::write_all(1, b"\n");
+}
+
+// The whole of it. No contract can say what is read or written: proved are safety and that it ends.
+pub fn print() {
+    let fd = os::open_read(b"book.txt");
+    if fd < 0 {
+        os::fail(b"book.txt");
+        return;
+    }
+    let mut buffer = io::large_buffer();
+    let n = io::read_full(fd, &mut buffer);
+    libc::close(fd);
+    let r = reader::read(&buffer[..n]);
+    let a = r.answer;
+    let number = book::number_of(a);
+    if number == 0 {
+        let b = r.book;
+        list(b);
+        return;
+    }
+    print_refused(number, book::place_of(a));
+}
