@@ -2,7 +2,7 @@
 use constraint::Constraint;
 use slot::Slot;
 ghost use mathlib.Core.Path.{_≡_};
-ghost use mathlib.Core.Bool.{true};
+ghost use mathlib.Core.Bool.{true, false};
 ghost use mathlib.Core.List.{map};
 ghost use Prim.Native.Nat.{compare, _≤_, _<_};
 ghost use lib.Dec.{leb};
@@ -20,7 +20,7 @@ pub struct Disjunct {
     pub vars: [Slot; 4],
 }
 
-// A disjunct, or (ok false) none: what a meeting or an exclusion gives.
+// What a meeting or an exclusion gives: a disjunct, or (ok false) none; then the disjunct as it was.
 pub struct Met {
     pub ok: bool,
     pub disjunct: Disjunct,
@@ -43,7 +43,8 @@ impl Disjunct {
     pub fn meet(self, c: Constraint) -> Met
         requires { ⌜ Ready c ⌝ }
         ensures { λ r. ⌜ (r .ok ≡ Labels.meets (viewDisjunct self) (viewConstraint c))
-            × (r .ok ≡ true → viewDisjunct (r .disjunct) ≡ Labels.met (viewDisjunct self) (viewConstraint c)) ⌝ }
+            × (r .ok ≡ true → viewDisjunct (r .disjunct) ≡ Labels.met (viewDisjunct self) (viewConstraint c))
+            × (r .ok ≡ false → r .disjunct ≡ self) ⌝ }
     {
         let mut d = self;
         let n = c.count;
@@ -88,7 +89,8 @@ impl Disjunct {
     pub fn exclude(self, v: usize, x: u32) -> Met
         requires { ⌜ v < 4 ⌝ }
         ensures { λ r. ⌜ (r .ok ≡ leb (length (Labels.exclusions (Labels.excluding (Labels.entryOf (viewDisjunct self) v) x))) 6)
-            × (r .ok ≡ true → viewDisjunct (r .disjunct) ≡ Labels.exclude (viewDisjunct self) (record { variable = v; value = x })) ⌝ }
+            × (r .ok ≡ true → viewDisjunct (r .disjunct) ≡ Labels.exclude (viewDisjunct self) (record { variable = v; value = x }))
+            × (r .ok ≡ false → r .disjunct ≡ self) ⌝ }
     {
         let s = self.vars[v];
         let e = s.excluding(x);

@@ -1,6 +1,6 @@
 // What a disjunct says of one variable: a value, or free with up to six excluded values. For the disjunct.
 ghost use mathlib.Core.Path.{_≡_};
-ghost use mathlib.Core.Bool.{true};
+ghost use mathlib.Core.Bool.{true, false};
 ghost use mathlib.Core.List.{List, [], _∷_, _++_};
 ghost use Prim.Native.Nat.{ℕ, suc, compare, _≤_};
 ghost use lib.Dec.{eqb, leb};
@@ -18,7 +18,7 @@ pub struct Slot {
     pub excluded: [u32; 6],
 }
 
-// A slot with one more exclusion, or (ok false) none, since it would be the seventh.
+// A slot with one more exclusion, or (ok false) the slot as it was, since it would be the seventh.
 pub struct Excluded {
     pub ok: bool,
     pub slot: Slot,
@@ -112,7 +112,8 @@ impl Slot {
     // x among the exclusions of a free variable, in its place.
     pub fn excluding(self, x: u32) -> Excluded
         ensures { λ r. ⌜ (r .ok ≡ leb (length (Labels.exclusions (Labels.excluding (viewSlot self) x))) 6)
-            × (r .ok ≡ true → viewSlot (r .slot) ≡ Labels.excluding (viewSlot self) x) ⌝ }
+            × (r .ok ≡ true → viewSlot (r .slot) ≡ Labels.excluding (viewSlot self) x)
+            × (r .ok ≡ false → r .slot ≡ self) ⌝ }
     {
         if self.bound {
             return Excluded {

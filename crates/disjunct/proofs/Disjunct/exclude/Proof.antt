@@ -1,6 +1,6 @@
 -- `Disjunct::exclude` meets its contract: one slot with one more exclusion, or the disjunct as it was.
-use mathlib.Core.Path.{sym, ap, _∙_}
-use mathlib.Core.Bool.{false≢true}
+use mathlib.Core.Path.{refl, sym, ap, _∙_}
+use mathlib.Core.Bool.{false≢true, true≢false}
 use borrow.Author.Needs.{needs}
 use lib.Dec.{leb}
 use lib.ListN.{length, set}
@@ -32,13 +32,14 @@ returns c =
     let h = ap (λ x. excluding x (a .x)) (entry-at (a .t1) (a .v)) in (
       sym (c .before .if1 .taken) ∙ e .ensures .0 ∙ ap (λ x. leb (length (exclusions x)) 6) (sym h),
       λ _. view-set (a .t1) (a .v) (e .result .slot) ∙ ap (set (viewDisjunct (a .t1)) (a .v)) (e .ensures .1 (c .before .if1 .taken) ∙ sym h),
+      λ f. absurd (true≢false f),
     )
 
 returns-2 : tie.Need-returns-2
 returns-2 c =
     let a = c .before .before .before .args in
     let h = ap (λ x. leb (length (exclusions (excluding x (a .x)))) 6) (entry-at (a .t1) (a .v)) in
-    (sym (c .if1 .left) ∙ c .before .excluding .ensures .0 ∙ sym h, λ e. absurd (false≢true e))
+    (sym (c .if1 .left) ∙ c .before .excluding .ensures .0 ∙ sym h, λ e. absurd (false≢true e), λ _. refl)
 
 pub exclude-spec : {M : Type 1} → statement M
 exclude-spec =

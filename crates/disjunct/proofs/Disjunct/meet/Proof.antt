@@ -1,6 +1,6 @@
 -- `Disjunct::meet` meets its contract: what is bound so far, met with the demands ahead, is the disjunct met with all demands.
 use mathlib.Core.Path.{_≡_, refl, sym, ap, _∙_}
-use mathlib.Core.Bool.{true, false≢true}
+use mathlib.Core.Bool.{true, false≢true, true≢false}
 use mathlib.Core.List.{_∷_}
 use Prim.Native.Nat.{_+_, _-_, _≤_, _<_}
 use native.Mathlib.Omega.{arith}
@@ -110,6 +110,7 @@ returns c =
       sym (meets-first (viewDisjunct (l .d)) (first t) h) ∙ l .inv .3
           ∙ ap (meets (viewDisjunct (s .args .self))) (sym (demanded y (t .before .before .if1 .taken))),
       λ e. absurd (false≢true e),
+      λ _. refl,
     )
 
 returns-2 : tie.Need-returns-2 Inv-loop μ-loop
@@ -122,12 +123,13 @@ returns-2 c =
     let n = sym (demands-end y (l .i) (c .loop-test .left)) in (
       ap (meetsAll D) n ∙ l .inv .3 ∙ ap (meets (viewDisjunct (s .args .self))) e,
       λ _. ap (metAll D) n ∙ l .inv .4 ∙ ap (met (viewDisjunct (s .args .self))) e,
+      λ f. absurd (true≢false f),
     )
 
 returns-3 : tie.Need-returns-3 Inv-loop μ-loop
 returns-3 c =
     let a = c .before .args in
-    (ap (meets (viewDisjunct (a .self))) (sym (undemanded (a .t2) (c .if1 .left))), λ e. absurd (false≢true e))
+    (ap (meets (viewDisjunct (a .self))) (sym (undemanded (a .t2) (c .if1 .left))), λ e. absurd (false≢true e), λ _. refl)
 
 pub meet-spec : {M : Type 1} → statement M
 meet-spec =

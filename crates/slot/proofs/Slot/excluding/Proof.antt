@@ -1,6 +1,6 @@
 -- `Slot::excluding` meets its contract: the slot stays as it is, has no room, or gets the value in its place.
-use mathlib.Core.Path.{_≡_, sym, _∙_}
-use mathlib.Core.Bool.{false≢true}
+use mathlib.Core.Path.{_≡_, refl, sym, _∙_}
+use mathlib.Core.Bool.{false≢true, true≢false}
 use mathlib.Core.Logic.{⊎-elim}
 use Prim.Native.Nat.{suc, _<_}
 use native.Mathlib.Omega.{arith}
@@ -14,7 +14,8 @@ use Rattle.slot.proofs.Slot.excluding.Tie as tie
 returns : tie.Need-returns
 returns c =
     let a = c .before .args in
-    kept-slot (a .self) (a .x) (search needs) (excluding-bound (a .self) (a .x) (c .if1 .taken))
+    let h = kept-slot (a .self) (a .x) (search needs) (excluding-bound (a .self) (a .x) (c .if1 .taken)) in
+    (h .0, h .1, λ _. refl)
 
 size-requires : tie.Need-size-requires
 size-requires c κs = search needs
@@ -35,7 +36,8 @@ returns-2 c =
     let k = c .before .before .before .place in
     let f = c .before .before .before .before .before .if1 .left in
     let e = found-slot (a .self) (a .x) (z .result) (k .result) f (z .ensures .0) (k .ensures .0) (c .before .if2 .taken) (c .if3 .taken) in
-    kept-slot (a .self) (a .x) (search needs) e
+    let h = kept-slot (a .self) (a .x) (search needs) e in
+    (h .0, h .1, λ _. refl)
 
 -- x is not among the exclusions
 absent : (c : tie.Joined2) → let a = c .before .before .before .before .before .args in let k = c .before .before .place .result in
@@ -51,7 +53,7 @@ returns-3 c =
     let n = absent (c .before) in
     let l : length (a .self .excluded) ≡ 6 = search needs in
     let e = gap-room (a .self) (a .x) (z .result) (k .result) f (z .ensures .0) (k .ensures .0) n (omega arith) in
-    (sym (e ∙ lt-leb (suc (z .result)) 6 (omega arith)), λ t. absurd (false≢true t))
+    (sym (e ∙ lt-leb (suc (z .result)) 6 (omega arith)), λ t. absurd (false≢true t), λ _. refl)
 
 opened-requires : tie.Need-opened-requires
 opened-requires c κs =
@@ -76,6 +78,7 @@ returns-4 c =
     let e = gap-room (a .self) (a .x) (z .result) (k .result) f (z .ensures .0) (k .ensures .0) n (omega arith) in (
       sym (e ∙ le-leb (suc (z .result)) 6 (omega arith)),
       λ t. gap-view (a .self) (a .x) (z .result) (k .result) f (z .ensures .0) (k .ensures .0) n (c .opened .result) (c .opened .ensures),
+      λ t. absurd (true≢false t),
     )
 
 pub excluding-spec : {M : Type 1} → statement M
