@@ -59,7 +59,7 @@ answer-of : (o : Outcome) → readingFor o .answer ≡ answerOf (o .number) (o .
 unfolding readingFor
 answer-of o = either (λ (r : Reading). r .answer ≡ answerOf (o .number) (o .place)) (eqb (o .number) 0) (λ _. refl) λ _. refl
 
-long-place : (s : Bytes) → readingOf s .number ≡ 1 → textLimit ≡ readingOf s .place
+pub long-place : (s : Bytes) → readingOf s .number ≡ 1 → textLimit ≡ readingOf s .place
 unfolding readingOf
 long-place s e = rw (lt-ltb textLimit (length s) (Accepted.too-long s .0 e))
 

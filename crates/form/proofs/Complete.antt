@@ -46,7 +46,7 @@ name-short [] h = absurd (false≢true h)
 name-short (b ∷ w) h = omega (arith, leb-true (length w) 11 (and-true-split (isLower b && all isNameByte w) _ h .1))
 
 -- `*`, `+`, `?`
-abbrev isPostfix : ℕ → Bool
+abbrev pub isPostfix : ℕ → Bool
 isPostfix b = eqb b asterisk || (eqb b plusSign || eqb b question)
 
 abbrev pub postfixed : List Token → Bool

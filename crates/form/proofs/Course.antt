@@ -37,7 +37,7 @@ index-found s w (x ∷ xs) h = decide (sameWord (bytesAt s x) w) refl h (index-f
     decide true e k ih = same-word (bytesAt s x) w .0 e
     decide false e k ih = ih (omega arith)
 
-drop-next : (s : Bytes) (p b : ℕ) (l : Bytes) → drop p s ≡ b ∷ l → (p + 1 ≤ length s) × (drop (p + 1) s ≡ l)
+pub drop-next : (s : Bytes) (p b : ℕ) (l : Bytes) → drop p s ≡ b ∷ l → (p + 1 ≤ length s) × (drop (p + 1) s ≡ l)
 drop-next s p b l e = decide (ltb p (length s)) refl
   where
     decide : (t : Bool) → ltb p (length s) ≡ t → (p + 1 ≤ length s) × (drop (p + 1) s ≡ l)

@@ -35,7 +35,7 @@ module _ (f : ℕ → Bool) (no-space : f space ≡ false) (no-lf : f lf ≡ fal
   bytes-word no-end (b ∷ w) some h =
       ap₂ _&&_ (ap not (byte-differs b pastEnd no-end (and-true-split (f b) (all f w) h .0))) (all-word (b ∷ w) h)
 
-lower-name-byte : (b : ℕ) → isLower b ≡ true → isNameByte b ≡ true
+pub lower-name-byte : (b : ℕ) → isLower b ≡ true → isNameByte b ≡ true
 lower-name-byte b h = ap (λ t. t || isDigit b) h
 
 -- a name's parts
@@ -50,7 +50,7 @@ name-word [] h = h
 name-word (b ∷ w) h = bytes-word isNameByte refl refl refl (b ∷ w) (omega arith) (name-split b w h .1)
 
 -- what stands behind a word begins with no byte of a name
-stops-name : (l : Bytes) → run isWordByte l ≡ 0 → run isNameByte l ≡ 0
+pub stops-name : (l : Bytes) → run isWordByte l ≡ 0 → run isNameByte l ≡ 0
 stops-name [] h = refl
 stops-name (b ∷ l) h = by (isNameByte b) refl
   where
@@ -64,7 +64,7 @@ module _ {s : Bytes} {p b : ℕ} {w rest : Bytes} (h : Word s p (b ∷ w) rest) 
   at-first = ap (λ q. getD s q pastEnd) (omega arith) ∙ sym (getD-drop p s 0 pastEnd) ∙ rw (h .text)
 
   -- what the test looks at
-  fault-at : nameFault s p (wordEnd s p)
+  pub fault-at : nameFault s p (wordEnd s p)
       ≡ cond (eqb (cond (isLower b) (p + run isNameByte (b ∷ w ++ rest)) p) (p + suc (length w))) (cond (leb (suc (length w)) 12) 0 3) 2
   unfolding nameFault nameEnd
   fault-at = let n : p + suc (length w) - p ≡ suc (length w) = omega arith in rw (word-end h, at-first, h .text, n)

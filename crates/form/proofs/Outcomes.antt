@@ -52,7 +52,7 @@ pub record Known (s : Bytes) (o : Outcome) : Type 0 where
 
 module _ (s : Bytes) where
   -- what is made of the pattern
-  abbrev outcome : Parsed → Outcome
+  abbrev pub outcome : Parsed → Outcome
   outcome m =
       let accepted : Outcome = record { number = 0; place = 0; table = linesOf s .table; tree = m .tree } in
       cond (eqb (m .step .fault) 0) accepted (refused (m .step))

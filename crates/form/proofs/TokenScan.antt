@@ -38,7 +38,7 @@ tokensAt s p = tokens (drop p s)
 abbrev pub apart : ℕ → Bytes → List Token
 apart b l = cond (eqb b space) (tokens l) (sign b ∷ tokens l)
 
-tokens-apart : (b : ℕ) (l : Bytes) → isLower b ≡ false → tokens (b ∷ l) ≡ apart b l
+pub tokens-apart : (b : ℕ) (l : Bytes) → isLower b ≡ false → tokens (b ∷ l) ≡ apart b l
 tokens-apart b l e = ap (λ t. cond t (tokensAfter (b ∷ []) l) (apart b l)) e
 
 -- a name that has begun goes as long as it can

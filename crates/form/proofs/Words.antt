@@ -30,7 +30,7 @@ run-passes f (b ∷ w) rest h = first (f b) refl (run-passes f w rest)
     first false e ih = let k : 0 ≡ suc (length w) = rw e at h in absurd (omega arith)
 
 -- a run, and what stands behind it
-run-split : (f : ℕ → Bool) (l : Bytes) → (all f (take (run f l) l) ≡ true) × (run f (drop (run f l) l) ≡ 0) × (length (take (run f l) l) ≡ run f l)
+pub run-split : (f : ℕ → Bool) (l : Bytes) → (all f (take (run f l) l) ≡ true) × (run f (drop (run f l) l) ≡ 0) × (length (take (run f l) l) ≡ run f l)
 run-split f [] = (refl, refl, refl)
 run-split f (b ∷ l) = first (f b) refl (run-split f l)
   where

@@ -13,6 +13,10 @@ use Rattle.meaning.specs.Meaning.{Tracematch}
 abbrev pub Bytes : Type 0
 Bytes = List ℕ
 
+-- every element is a byte, as it is in any lent text
+abbrev pub isBytes : Bytes → Bool
+isBytes s = all (λ b. ltb b 256) s
+
 abbrev pub space : ℕ
 space = 32
 

@@ -33,8 +33,10 @@ use Rattle.book.specs.declared.Book.{Book}
 use Rattle.book.specs.Books.{viewBook}
 use Rattle.state.specs.declared.State.{State}
 use Rattle.state.specs.States.{heldFirst, viewState}
-use Rattle.sound.specs.Soundness.{slotCounts, slotSound, symbolCounts, symbolSound, patternSound, bookCounts}
-use Rattle.sound.specs.Soundness.{bookSound, disjunctSound, poolSound, stateCounts, stateSound}
+use Rattle.sound.specs.Soundness.{slotCounts, symbolCounts, bookCounts}
+use Rattle.sound.specs.Tests.{slotSound, symbolSound, patternSound}
+use Rattle.sound.specs.Soundness.{bookSound, stateCounts, stateSound}
+use Rattle.sound.specs.Tests.{disjunctSound, poolSound}
 use Rattle.sound.proofs.Loops.{and-false}
 use Rattle.sound.proofs.Sizes.{Words, StateSized, BookSized}
 use Rattle.sound.proofs.Held.{held-length}

@@ -46,24 +46,3 @@ stateCounts n s = leb (s .count) 128 && all (λ d. all slotCounts (take n (d .va
 -- "unsound … state": not this
 unfoldable pub stateSound : Book → State → Bool
 stateSound b s = stateCounts (b .variables) s && soundState (viewBook b) (viewState (b .variables) s)
-
--- the parts that the code tests one by one
-unfoldable pub slotSound : Slot → Bool
-slotSound s = slotCounts s && soundEntry (viewSlot s)
-
-unfoldable pub disjunctSound : ℕ → Disjunct → Bool
-disjunctSound n d = all slotSound (take n (d .vars))
-
-unfoldable pub poolSound : (variables positions : ℕ) → State → Bool
-poolSound n m s = all (λ p. leb 1 p && leb p m) (take (s .count) (s .positions)) && all (disjunctSound n) (take (s .count) (s .pool))
-
-unfoldable pub symbolSound : ℕ → Symbol → Bool
-symbolSound n y = symbolCounts y && soundSymbol n (viewSymbol y)
-
-unfoldable pub patternSound : Book → Bool
-patternSound b =
-    let n = b .positions in
-    leb 1 n && leb n 31
-    && all (λ a. ltb a (b .symbols)) (take n (b .occurrences))
-    && soundMask n (b .begins) && soundMask n (b .ends) && all (soundMask n) (take n (b .follows))
-    && not (b .empty)

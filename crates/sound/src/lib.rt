@@ -17,7 +17,8 @@ ghost use Rattle.meaning.specs.Labels.{heldAt, compareHeld};
 ghost use Rattle.table.specs.Tables.{viewPlace};
 ghost use Rattle.disjunct.specs.Disjuncts.{viewDisjunct};
 ghost use Rattle.state.specs.States.{heldFirst};
-ghost use Rattle.sound.specs.Soundness.{slotSound, disjunctSound, symbolSound, patternSound, bookSound, poolSound, stateSound};
+ghost use Rattle.sound.specs.Soundness.{bookSound, stateSound};
+ghost use Rattle.sound.specs.Tests.{slotSound, disjunctSound, symbolSound, patternSound, poolSound};
 
 fn both(a: bool, b: bool) -> bool
     ensures { λ r. ⌜ r ≡ (a && b) ⌝ }

@@ -37,7 +37,7 @@ use Rattle.watch.specs.declared.Answer.the-variants.{Accepted, OutOfForm
 use Rattle.watch.specs.declared.Taken.{Taken}
 use Rattle.watch.specs.Calls as Calls
 use Rattle.watch.specs.Calls.{isAccepted, rowsBy, stateBy, answerTo, taken, bufferAfter, freshState}
-use Rattle.watch.specs.Runs.{Lent, Call, event, isBytes, allBytes, Made, make, runFrom, runOf, wasAccepted, acceptedIn, traceOf, Within}
+use Rattle.watch.specs.Runs.{Lent, Call, event, allBytes, Made, make, runFrom, runOf, wasAccepted, acceptedIn, traceOf, Within}
 use Rattle.watch.proofs.States.{number-within}
 use Rattle.watch.proofs.Bridge.{Read, read, Reached, reached-fresh, reached-next, plain, Decision, outOfForm, tooMany, noRoom, noSpace, accepted}
 use Rattle.watch.proofs.Bridge.{variables, rows-by, state-by, room-by, sound-by}

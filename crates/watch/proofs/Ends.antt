@@ -26,8 +26,10 @@ use Rattle.writer.specs.RowBytes.{rowBytes}
 use Rattle.writer.proofs.RowBytes.{row-wide}
 use Rattle.tally.specs.declared.Tally.{Tally}
 use Rattle.tally.specs.Tallies.{tallied}
-use Rattle.watch.specs.Answers.{numberOf, answerOf}
-use Rattle.watch.specs.Calls.{isAccepted, rowsBy, stateBy, Moved, unsound, outOfForm, tooMany, noRoom, noSpace, answerTo, taken, bufferAfter}
+use Rattle.watch.specs.Answers.{numberOf}
+use Rattle.watch.specs.Inner.{answerOf}
+use Rattle.watch.specs.Calls.{isAccepted, rowsBy, stateBy, unsound, outOfForm, tooMany, noRoom, noSpace, answerTo, taken, bufferAfter}
+use Rattle.watch.specs.Inner.{Moved}
 use Rattle.watch.specs.declared.Answer.{Answer}
 use Rattle.watch.specs.declared.Answer.the-variants.{Accepted, Unsound, OutOfForm, TooMany, NoRoom, NoSpace}
 use Rattle.watch.specs.declared.Taken.{Taken}

@@ -2,7 +2,6 @@
 use mathlib.Core.Bool.{Bool, true, false, cond}
 use mathlib.Core.List.{List, [], _∷_}
 use Prim.Native.Nat.{ℕ}
-use lib.Dec.{eqb}
 use Rattle.watch.specs.declared.Answer.{Answer}
 use Rattle.watch.specs.declared.Answer.the-variants.{Accepted, Unsound, OutOfForm, TooMany, NoRoom, NoSpace}
 
@@ -18,15 +17,6 @@ numberOf NoSpace = 13
 -- the place beside it: answers 9 to 13 carry place 0; an accepted event has none, which counts as 0
 abbrev pub placeOf : Answer → ℕ
 placeOf a = 0
-
--- the answer with a number
-unfoldable pub answerOf : ℕ → Answer
-answerOf n =
-    cond (eqb n 0) Accepted
-    (cond (eqb n 9) Unsound
-    (cond (eqb n 10) OutOfForm
-    (cond (eqb n 11) TooMany
-    (cond (eqb n 12) NoRoom NoSpace))))
 
 -- one check of an event call: whether it fails, and the answer then
 pub record Check : Type 0 where

@@ -59,17 +59,6 @@ module _ (b : Book) (s : State) (e : Events.Event) where
   unfoldable pub roomBy : Bool
   roomBy = room (viewBook b) (heldFirst (b .variables) s) e
 
-  -- the number of the answer of a sound book in a sound state, before the buffer is looked at
-  unfoldable pub judgedNumber : ℕ
-  judgedNumber = cond leavesFreeBy 9 (cond (eqb (s .number) eventLimit) 11 (cond roomBy 0 12))
-
-  -- what the pure step gives on acceptance: the state, the count of rows, and words that begin with the rows' valuations
-  pub record Moved (next : State) (count : ℕ) (words : List ℕ) : Type 0 where
-    pub after : next ≡ stateBy
-    pub counted : count ≡ length rowsBy
-    pub few : count ≤ rowLimit
-    pub listed : take count (valuationsIn words) ≡ map wideValuation rowsBy
-
 -- the checks of document 01's table, 9 to 13
 module _ (b : Book) (s : State) (record-bytes : Bytes) where
   -- 9: "unsound book or state"; "9 also covers a row that would leave a variable free"

@@ -1,5 +1,6 @@
 -- What the public calls give: Answers (document 01's number of each answer), Calls (one event call, decided whole), Runs (lists of
--- calls, and what demands 2 and 3 say of them).
+-- calls, and what demands 2 and 3 say of them). Inner is for the code's own functions.
 pub mod Answers
 pub mod Calls
+pub mod Inner
 pub mod Runs

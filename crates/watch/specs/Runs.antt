@@ -4,7 +4,6 @@ use mathlib.Core.Path.{_≡_}
 use mathlib.Core.Bool.{Bool, true, false, cond}
 use mathlib.Core.List.{List, [], _∷_, _++_, map}
 use Prim.Native.Nat.{ℕ, suc, _+_, _-_, _*_, _≤_, _<_}
-use lib.Dec.{ltb}
 use lib.ListN.{length, take, drop, getD}
 use Rattle.laws.specs.Lists.{all, keep, gather}
 use Rattle.laws.specs.Parts.{splice}
@@ -14,7 +13,7 @@ use Rattle.meaning.specs.Book.{bookOf}
 use Rattle.meaning.specs.Labels.{Held, newHeld}
 use Rattle.meaning.specs.Room.{Broken}
 use Rattle.meaning.specs.Runs.{Listed, Dependent}
-use Rattle.form.specs.Text.{Bytes}
+use Rattle.form.specs.Text.{Bytes, isBytes}
 use Rattle.record.specs.Records.{isRecord, eventIn}
 use Rattle.book.specs.declared.Book.{Book}
 use Rattle.state.specs.declared.State.{State}
@@ -40,10 +39,7 @@ pub data Call : Type 0 where
 abbrev pub lentAt : Call → Lent
 lentAt (event l) = l
 
--- bytes are below 256, as in any lent slice
-abbrev pub isBytes : Bytes → Bool
-isBytes s = all (λ x. ltb x 256) s
-
+-- records are bytes, as any lent slice is
 abbrev pub allBytes : List Call → Bool
 allBytes cs = all (λ c. isBytes (lentAt c .bytes)) cs
 

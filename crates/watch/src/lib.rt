@@ -23,8 +23,10 @@ ghost use Rattle.advance.specs.Held.{heldIn};
 ghost use Rattle.state.specs.States.{heldFirst};
 ghost use Rattle.sound.specs.Soundness.{bookSound, stateSound};
 ghost use Rattle.tally.specs.Tallies.{tallied};
-ghost use Rattle.watch.specs.Answers.{numberOf, placeOf, answerOf, firstOf};
-ghost use Rattle.watch.specs.Calls.{freshState, roomBy, judgedNumber, Moved, decisions, taken, bufferAfter};
+ghost use Rattle.watch.specs.Answers.{numberOf, placeOf, firstOf};
+ghost use Rattle.watch.specs.Inner.{answerOf};
+ghost use Rattle.watch.specs.Calls.{freshState, roomBy, decisions, taken, bufferAfter};
+ghost use Rattle.watch.specs.Inner.{judgedNumber, Moved};
 
 // The answers 0 and 9 to 13 of document 01.
 pub enum Answer {

@@ -8,7 +8,8 @@ use lib.Dec.{leb}
 use lib.ListN.{take}
 use Rattle.laws.specs.Lists.{all}
 use Rattle.laws.proofs.Lists.{and-true-split}
-use Rattle.sound.specs.Soundness.{symbolSound, patternSound, bookSound}
+use Rattle.sound.specs.Soundness.{bookSound}
+use Rattle.sound.specs.Tests.{symbolSound, patternSound}
 use Rattle.sound.proofs.Sizes.{book-sized}
 use Rattle.sound.proofs.Parts.{book-variables, book-none, book-parts}
 use Rattle.sound.proofs.sound_book.Statement.{statement}

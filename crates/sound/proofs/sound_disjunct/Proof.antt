@@ -7,7 +7,7 @@ use native.Mathlib.Omega.{arith}
 use borrow.Author.Needs.{needs}
 use lib.ListN.{length}
 use Rattle.disjunct.proofs.Disjuncts.{sized}
-use Rattle.sound.specs.Soundness.{slotSound, disjunctSound}
+use Rattle.sound.specs.Tests.{slotSound, disjunctSound}
 use Rattle.sound.proofs.Loops.{Told, told-more, told-stop, told-end}
 use Rattle.sound.proofs.sound_disjunct.Statement.{statement}
 use Rattle.sound.proofs.sound_disjunct.Tie as tie

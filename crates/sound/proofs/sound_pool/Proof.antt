@@ -7,7 +7,7 @@ use native.Mathlib.Omega.{arith}
 use borrow.Author.Needs.{needs}
 use lib.Dec.{leb}
 use lib.ListN.{length}
-use Rattle.sound.specs.Soundness.{disjunctSound, poolSound}
+use Rattle.sound.specs.Tests.{disjunctSound, poolSound}
 use Rattle.sound.proofs.Loops.{pairs, pairs-more, pairs-first, pairs-second, pairs-end}
 use Rattle.sound.proofs.Sizes.{state-sized}
 use Rattle.sound.proofs.sound_pool.Statement.{statement}

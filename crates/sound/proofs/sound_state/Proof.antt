@@ -7,7 +7,8 @@ use lib.ListN.{length-take}
 use Rattle.laws.specs.Order.{ascending}
 use Rattle.meaning.specs.Labels.{compareHeld}
 use Rattle.state.specs.States.{heldFirst}
-use Rattle.sound.specs.Soundness.{poolSound, stateSound}
+use Rattle.sound.specs.Soundness.{stateSound}
+use Rattle.sound.specs.Tests.{poolSound}
 use Rattle.sound.proofs.Sizes.{book-sized, state-sized}
 use Rattle.sound.proofs.Parts.{state-late, state-many, state-parts}
 use Rattle.sound.proofs.sound_state.Statement.{statement}

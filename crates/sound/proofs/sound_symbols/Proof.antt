@@ -5,7 +5,7 @@ use Prim.Native.Nat.{_-_, _≤_}
 use native.Mathlib.Omega.{arith}
 use borrow.Author.Needs.{needs}
 use lib.ListN.{length}
-use Rattle.sound.specs.Soundness.{symbolSound}
+use Rattle.sound.specs.Tests.{symbolSound}
 use Rattle.sound.proofs.Loops.{Told, told-more, told-stop, told-end}
 use Rattle.sound.proofs.sound_symbols.Statement.{statement}
 use Rattle.sound.proofs.sound_symbols.Tie as tie

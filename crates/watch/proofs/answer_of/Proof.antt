@@ -1,6 +1,6 @@
 -- `watch::answer_of` meets its contract: in each arm the number is known, and in the last it is none of those above.
 use borrow.Author.Tests.{ne-eqb}
-use Rattle.watch.specs.Answers.{answerOf}
+use Rattle.watch.specs.Inner.{answerOf}
 use Rattle.watch.proofs.answer_of.Statement.{statement}
 use Rattle.watch.proofs.answer_of.Tie as tie
 

@@ -1,0 +1,106 @@
+-- The end of a word that the course has read, and what it finds there: the line's LF, one space and a word behind it, or a place
+-- where it halts. For HeaderCourse.
+use mathlib.Core.Path.{_≡_, refl, sym, ap, _∙_}
+use mathlib.Core.Bool.{Bool, true, false, cond, _||_, true≢false}
+use mathlib.Core.List.{List, [], _∷_}
+use mathlib.Core.Logic.{_⊎_, inl, inr, ⊎-elim}
+use Prim.Native.Nat.{ℕ, zero, suc, _+_, _≤_, _<_}
+use native.Mathlib.Omega.{arith}
+use borrow.Author.Tests.{ltb-true, eqb-true, eqb-false, eq-eqb, ne-eqb}
+use lib.Dec.{eqb}
+use lib.ListN.{length, getD, drop, length-drop}
+use lib.Seq.{getD-drop}
+use Rattle.laws.proofs.Lists.{or-true-split, all-at, all-of}
+use Rattle.form.specs.Text.{Bytes, isBytes, space, lf, Span}
+use Rattle.form.specs.Scan.{Step, go, fail, at, pastEnd, run, isSpace, isWordByte, wordEnd, spacesEnd, nextWord}
+use Rattle.form.specs.Lines.{wantWord}
+use Rattle.form.proofs.Scans.{at-end, at-inside, wordEnd-le, spacesEnd-le, spacesEnd-ge}
+use Rattle.form.proofs.TokenScan.{by-test, by-equal, or-false-left, or-false-right, inside-of, here-space}
+use Rattle.fault.specs.Places.{Ends}
+use Rattle.fault.proofs.Spots.{run-inside, run-end}
+use Rattle.fault.proofs.Come.{Gap, Come, opened, variable, line, named, kinded, argued, Halt, noLF, lastSpace, twoSpaces, fewWords}
+
+-- p is the end of a word
+pub record WordEnd (s : Bytes) (p : ℕ) : Type 0 where
+  pub inside : p ≤ length s
+  pub stops : isWordByte (at s p) ≡ true → p ≡ length s
+
+module _ (s : Bytes) where
+  word-ends : (q : ℕ) → q ≤ length s → WordEnd s (wordEnd s q)
+  unfolding wordEnd
+  word-ends q h = record {
+    inside = wordEnd-le s q h;
+    stops = λ e. ⊎-elim (λ k. omega (arith, length-drop q s)) (λ k. absurd (true≢false (sym e ∙ rw getD-drop at k)))
+        (run-end isWordByte (drop q s));
+  }
+
+  pub come-end : {p k i : ℕ} {vs ss : List Span} → Come s p k i vs ss → WordEnd s p
+  come-end (opened e) = word-ends 0 (omega arith)
+  come-end (variable p i vs c l m g e) = word-ends _ (omega (arith, g .1))
+  come-end (line p k i vs ss c l m g e) = word-ends _ (inside-of s p lf g refl)
+  come-end (named p k vs ss c l g e) = word-ends _ (omega (arith, g .1))
+  come-end (kinded p k vs ss c l g e) = word-ends _ (omega (arith, g .1))
+  come-end (argued p k i vs ss c l m n g e) = word-ends _ (omega (arith, g .1))
+
+  space-at : (p n : ℕ) → p + n < spacesEnd s p → at s (p + n) ≡ space
+  unfolding spacesEnd
+  space-at p n h = eqb-true _ space (rw getD-drop at (run-inside isSpace (drop p s) n (omega arith)))
+
+module _ (s : Bytes) (bytes : isBytes s ≡ true) where
+  -- no byte is 256
+  past-end : (p : ℕ) → at s p ≡ pastEnd → length s ≤ p
+  past-end p = at-inside s p (all-of _ s λ b m. rw (ne-eqb b pastEnd λ e. omega (arith, ltb-true b 256 (all-at _ bytes m))))
+
+  module _ {p k i : ℕ} {vs ss : List Span} (come : Come s p k i vs ss) where
+    -- the first place behind the spaces
+    q : ℕ
+    q = spacesEnd s p
+
+    spaced : (q ≡ p → ⊥) → at s p ≡ space
+    unfolding q
+    spaced h = let z : p + 0 ≡ p = omega arith in rw z at (space-at s p 0 (omega (arith, spacesEnd-ge s p)))
+
+    ends : (eqb (at s q) lf || eqb (at s q) pastEnd) ≡ true → Ends s q
+    unfolding q
+    ends h =
+        let i = spacesEnd-le s p (come-end s come .inside) in
+        ⊎-elim (λ e. inl (eqb-true _ lf e)) (λ e. inr (omega (arith, past-end q (eqb-true _ pastEnd e)))) (or-true-split _ _ h)
+
+    ends-not : (eqb (at s q) lf || eqb (at s q) pastEnd) ≡ false → Ends s q → ⊥
+    ends-not h =
+        ⊎-elim (eqb-false _ lf (or-false-left _ _ h))
+        λ e. eqb-false _ pastEnd (or-false-right (eqb (at s q) lf) _ h) (at-end s q (omega arith))
+
+    one-gap : (eqb (at s q) lf || eqb (at s q) pastEnd) ≡ false → q ≡ p + 1 → Gap s p
+    unfolding q
+    one-gap h e =
+        let l = spacesEnd-le s p (come-end s come .inside) in
+        let n : q ≡ length s → ⊥ = λ z. ends-not h (inr z) in
+        let w : isWordByte (at s q) ≡ true = rw (here-space s p, or-false-left (eqb (at s q) lf) _ h) in
+        (spaced (λ z. omega arith), omega arith, rw e at w)
+
+    -- what holds of the gap behind a word, whatever stands there
+    gap-of : (P : Step → Type 0) → (at s p ≡ lf → P (go p)) → (Gap s p → P (go (p + 1)))
+        → ((x : Step) → (x .fault ≡ 0 → ⊥) → Halt s (x .place) (x .fault) → P x) → P (nextWord s p)
+    unfolding nextWord q
+    gap-of P end next halt =
+        let e = come-end s come in
+        by-equal P q p
+        (λ a. by-equal P (at s q) lf (λ b. end (rw a at b))
+        λ b. halt (fail 2 p) (λ z. omega arith) (noLF k i vs ss come (e .stops (rw (rw a at (here-space s p), ne-eqb _ lf (rw a at b))))))
+        λ a. by-test P (eqb (at s q) lf || eqb (at s q) pastEnd)
+        (λ b. halt (fail 2 p) (λ z. omega arith) (lastSpace k i vs ss come (spaced a) (ends b)))
+        λ b. by-equal P q (p + 1) (λ c. rw c (next (one-gap b c))) λ c. halt (fail 2 (p + 1)) (λ z. omega arith)
+        (twoSpaces p k i vs ss come (spaced a) (space-at s p 1 (omega (arith, spacesEnd-ge s p))) (ends-not b) refl)
+
+    pub gap : {P : Type 0} → (at s p ≡ lf → nextWord s p ≡ go p → P) → (Gap s p → nextWord s p ≡ go (p + 1) → P)
+        → ((x : Step) → (x .fault ≡ 0 → ⊥) → Halt s (x .place) (x .fault) → nextWord s p ≡ x → P) → P
+    gap {P} end next halt = gap-of (λ n. nextWord s p ≡ n → P) end next halt refl
+
+    -- where a word must stand
+    pub want : {P : Type 0} → 1 ≤ k → i ≤ 2 → (Gap s p → wantWord s p ≡ go (p + 1) → P)
+        → ((x : Step) → (x .fault ≡ 0 → ⊥) → Halt s (x .place) (x .fault) → wantWord s p ≡ x → P) → P
+    unfolding wantWord
+    want l m next halt =
+        gap (λ e h. halt (fail 2 p) (λ z. omega arith) (fewWords k i vs ss come l m e) (rw (h, eq-eqb p p refl)))
+        (λ g h. next g (rw (h, ne-eqb (p + 1) p (λ z. omega arith)))) λ x n y h. halt x n y (rw (h, ne-eqb (x .fault) 0 n))

@@ -1,0 +1,204 @@
+-- `refused`: the number and the place that `read` hands back (its contract cites `reading`) are those of the rules: 1 for a text too long,
+-- the least fault, 7, 8, or 0.
+use mathlib.Core.Path.{_≡_, refl, sym, ap, _∙_}
+use mathlib.Core.Bool.{Bool, true, false, cond, true≢false}
+use mathlib.Core.List.{List, []}
+use mathlib.Core.Logic.{_↔_, _⊎_, inl, inr, ⊎-elim}
+use Prim.Native.Nat.{ℕ, _+_, _≤_, _<_}
+use native.Mathlib.Omega.{arith}
+use borrow.Author.Tests.{eqb-true, eqb-false, eq-eqb, ltb-false, ltb-true}
+use lib.Dec.{eqb, ltb}
+use lib.ListN.{length}
+use Rattle.pattern.specs.Regex.{Regex, nullable}
+use Rattle.form.specs.Text.{Bytes, isBytes, space, Declarations}
+use Rattle.form.specs.Form.{Shape, textLimit}
+use Rattle.form.specs.Scan.{Step, fail, at}
+use Rattle.form.specs.Lines.{linesOf}
+use Rattle.form.specs.Parse.{Parsed, failed}
+use Rattle.form.specs.Reading.{Outcome, refused as refusal, matchFrom, readingOf}
+use Rattle.form.proofs.Accepted as Accepted
+use Rattle.form.proofs.Faults.{either, before-end}
+use Rattle.form.proofs.Outcomes.{Whole, known, patternOf, bindsAll, outcome}
+use Rattle.book.specs.Answers.{numberOf, placeOf}
+use Rattle.book.specs.Books.{reading}
+use Rattle.book.proofs.Bench as Bench
+use Rattle.fault.specs.Fault.{Fault, Least, NoFault}
+use Rattle.fault.specs.Rules.{AdmitsEmpty, LeavesUnbound, Rules}
+use Rattle.fault.proofs.Come.{Ready}
+use Rattle.fault.proofs.HeaderCourse.{lines-halt, lines-matched}
+use Rattle.fault.proofs.Halts.{halt-least, matched-ready}
+use Rattle.fault.proofs.PatternCourse.{pattern-whole, pattern-stopped}
+use Rattle.fault.proofs.PatternFaults.{space-least, stopped-least, after-least, finished-none}
+
+module _ (s : Bytes) (bytes : isBytes s ≡ true) where
+  -- the place behind `match`, and what is known there
+  abbrev behind : ℕ
+  behind = linesOf s .step .place
+
+  ready : linesOf s .step .fault ≡ 0 → Ready s (linesOf s .table .symbols) behind
+  ready h = matched-ready s bytes _ _ _ (lines-matched s bytes h)
+
+  -- the pattern begins inside the text
+  inside : eqb (at s behind) space ≡ true → behind + 1 ≤ length s
+  inside e = before-end s behind space (omega arith) e
+
+  -- where nothing is out of form, there is no fault
+  whole-none : Whole s → NoFault s
+  whole-none w =
+      let e = eq-eqb _ _ (w .behind) in
+      let (q, x, h) = pattern-whole s (w .short) (linesOf s .table .symbols) (behind + 1) (inside e) (w .pattern) in
+      finished-none s bytes _ behind (ready (w .lines)) (w .behind) q x h
+
+  -- the number and the place of a refusal before the words are judged: the least fault
+  abbrev Judged : (number place : ℕ) → Type 0
+  Judged n p = 2 ≤ n → n ≤ 6 → Least s p n
+
+  abbrev JudgedOutcome : Outcome → Type 0
+  JudgedOutcome o = Judged (o .number) (o .place)
+
+  -- the same of what is made of the pattern
+  abbrev JudgedPattern : Parsed → Type 0
+  JudgedPattern m = JudgedOutcome (outcome s m)
+
+  -- a step with a fault that is the least
+  step-judged : (m : Parsed) → ((m .step .fault ≡ 0 → ⊥) → Least s (m .step .place) (m .step .fault)) → JudgedPattern m
+  step-judged m f =
+      either JudgedOutcome (eqb (m .step .fault) 0) (λ _ h. absurd (omega arith)) (λ e _ _. f (eqb-false _ _ e))
+
+  pattern-least : length s ≤ textLimit → linesOf s .step .fault ≡ 0 → at s behind ≡ space → (patternOf s .step .fault ≡ 0 → ⊥)
+      → Least s (patternOf s .step .place) (patternOf s .step .fault)
+  pattern-least short l g h =
+      let r = ready l in
+      ⊎-elim (λ x. stopped-least s bytes _ behind r g _ _ x)
+      (λ (q, x, n, f, p). rw (f, p) (after-least s bytes _ behind r g q x n))
+      (pattern-stopped s short (linesOf s .table .symbols) (behind + 1) (inside (eq-eqb _ _ g)) h)
+
+  match-judged : length s ≤ textLimit → linesOf s .step .fault ≡ 0 → JudgedPattern (matchFrom s (linesOf s .table) behind)
+  unfolding matchFrom
+  match-judged short l =
+      let a = patternOf s in
+      either JudgedPattern (eqb (at s behind) space)
+      (λ g. either JudgedPattern (eqb (a .step .fault) 0)
+      (λ _. either JudgedPattern (nullable (a .tree)) (λ _ _ h. absurd (omega arith))
+      λ _. either JudgedPattern (bindsAll s) (λ _. step-judged a (pattern-least short l (eqb-true _ _ g))) λ _ _ h. absurd (omega arith))
+      λ _. step-judged a (pattern-least short l (eqb-true _ _ g)))
+      λ g _ _. space-least s bytes _ behind (ready l) (eqb-false _ _ g)
+
+  judged : length s ≤ textLimit → JudgedOutcome (readingOf s)
+  unfolding readingOf
+  judged short =
+      let l = linesOf s in
+      either JudgedOutcome (ltb textLimit (length s)) (λ e. absurd (omega (arith, ltb-true textLimit (length s) e)))
+      λ _. either JudgedOutcome (eqb (l .step .fault) 0) (λ f. match-judged short (eqb-true _ _ f))
+      λ f _ _. halt-least s bytes _ _ (lines-halt s bytes (eqb-false _ _ f))
+
+  -- two least faults are one
+  same-least : (p n q m : ℕ) → Least s p n → Least s q m → (n ≡ m) × (p ≡ q)
+  same-least p n q m a b = by (a .least q m (b .fault)) (b .least p n (a .fault))
+    where
+      by : (p < q) ⊎ ((p ≡ q) × (n ≤ m)) → (q < p) ⊎ ((q ≡ p) × (m ≤ n)) → (n ≡ m) × (p ≡ q)
+      by (inl x) (inl y) = absurd (omega arith)
+      by (inl x) (inr y) = absurd (omega (arith, y .0))
+      by (inr x) (inl y) = absurd (omega (arith, x .0))
+      by (inr x) (inr y) = (omega (arith, x .1, y .1), x .0)
+
+  abbrev number : ℕ
+  number = readingOf s .number
+
+  abbrev place : ℕ
+  place = readingOf s .place
+
+  -- a number other than 1 is that of a text which is not too long
+  short-of : (number ≡ 1 → ⊥) → length s ≤ textLimit
+  short-of h = by (ltb textLimit (length s)) refl
+    where
+      by : (t : Bool) → ltb textLimit (length s) ≡ t → length s ≤ textLimit
+      by true e = absurd (h (Accepted.too-long s .1 (ltb-true textLimit (length s) e)))
+      by false e = ltb-false textLimit (length s) e
+
+  -- 0, 7 and 8: no fault
+  none-of : (number ≡ 0) ⊎ (7 ≤ number) → NoFault s
+  none-of h = whole-none (known s .whole h)
+
+  -- a text with a fault that is not too long: the number is one of 2 to 6
+  fault-range : (q m : ℕ) → length s ≤ textLimit → Fault s q m → (2 ≤ number) × (number ≤ 6)
+  fault-range q m short f = by (ltb number 2) (ltb 6 number) refl refl
+    where
+      by : (a b : Bool) → ltb number 2 ≡ a → ltb 6 number ≡ b → (2 ≤ number) × (number ≤ 6)
+      by false false e g = (ltb-false number 2 e, ltb-false 6 number g)
+      by a true e g = absurd (none-of (inr (ltb-true 6 number g)) q m f)
+      by true false e g = absurd (low (eqb number 0) refl)
+        where
+          low : (c : Bool) → eqb number 0 ≡ c → ⊥
+          low true i = none-of (inl (eqb-true number 0 i)) q m f
+          low false i =
+              let one : number ≡ 1 = omega (arith, ltb-true number 2 e, eqb-false number 0 i) in
+              omega (arith, Accepted.too-long s .0 one)
+
+  fault-rule : (m q : ℕ) → 2 ≤ m → m ≤ 6 → ((number ≡ m) × (place ≡ q)) ↔ ((length s ≤ textLimit) × Least s q m)
+  fault-rule m q low high = (
+    λ (e, f). let short = short-of (λ o. omega arith) in (short, rw (e, f) at (judged short (omega arith) (omega arith))),
+    λ (short, l). let (a, b) = fault-range q m short (l .fault) in same-least place number q m (judged short a b) l,
+  )
+
+  -- 7 and 8: the words of the one pattern that the text writes
+  seven-rule : (number ≡ 7) ↔ ((length s ≤ textLimit) × NoFault s × AdmitsEmpty s)
+  seven-rule = (
+    λ e. (short-of (λ o. omega arith), none-of (inr (omega arith)), Accepted.seven s .0 e),
+    λ x. Accepted.seven s .1 (x .2),
+  )
+
+  eight-rule : (number ≡ 8) ↔ ((length s ≤ textLimit) × NoFault s × (AdmitsEmpty s → ⊥) × LeavesUnbound s)
+  eight-rule = (
+    λ e. let (d, r, f, n, u) = Accepted.eight s .0 e in
+        (short-of (λ o. omega arith), none-of (inr (omega arith)), λ a. omega (arith, Accepted.seven s .1 a), (d, r, f, u)),
+    λ (short, none, n, (d, r, f, u)). Accepted.eight s .1 (d, r, f, λ i. n (d, r, f, i), u),
+  )
+
+  -- no number else is left
+  zero-of : length s ≤ textLimit → NoFault s → (AdmitsEmpty s → ⊥) → (LeavesUnbound s → ⊥) → number ≡ 0
+  zero-of short none empty unbound = by (ltb number 2) (ltb 6 number) refl refl
+    where
+      by : (a b : Bool) → ltb number 2 ≡ a → ltb 6 number ≡ b → number ≡ 0
+      by true b e g = low (eqb number 0) refl
+        where
+          low : (c : Bool) → eqb number 0 ≡ c → number ≡ 0
+          low true i = eqb-true number 0 i
+          low false i =
+              let one : number ≡ 1 = omega (arith, ltb-true number 2 e, eqb-false number 0 i) in
+              absurd (omega (arith, Accepted.too-long s .0 one))
+      by false false e g = absurd (none place number (judged short (ltb-false number 2 e) (ltb-false 6 number g) .fault))
+      by false true e g = high (eqb number 7) refl
+        where
+          high : (c : Bool) → eqb number 7 ≡ c → number ≡ 0
+          high true i = absurd (empty (Accepted.seven s .0 (eqb-true number 7 i)))
+          high false i =
+              let eight : number ≡ 8 = omega (arith, ltb-true 6 number g, eqb-false number 7 i, Accepted.number-range s) in
+              let (d, r, f, n, u) = Accepted.eight s .0 eight in
+              absurd (unbound (d, r, f, u))
+
+  none-rule : ((number ≡ 0) × (place ≡ 0)) ↔ ((length s ≤ textLimit) × NoFault s × (AdmitsEmpty s → ⊥) × (LeavesUnbound s → ⊥))
+  none-rule = (
+    λ (e, f). (
+      short-of (λ o. omega arith),
+      none-of (inl e),
+      λ a. omega (arith, Accepted.seven s .1 a),
+      λ (d, r, f, (v, w, l, i, n)). let (d2, r2, g) = Accepted.accepted s .0 e in
+          let (same, tree) = Accepted.unique s d d2 r r2 f (g .shape) in
+          true≢false (sym (g .binding v (rw same at l) w (rw tree at i)) ∙ rw same at n),
+    ),
+    λ (short, none, empty, unbound). let z = zero-of short none empty unbound in (z, ap (λ o. o .place) (known s .read z)),
+  )
+
+  long-rule : ((number ≡ 1) × (place ≡ textLimit)) ↔ (textLimit < length s)
+  long-rule = (λ (e, f). Accepted.too-long s .0 e, λ h. let e = Accepted.too-long s .1 h in (e, sym (Bench.long-place s e)))
+
+  pub refused : Rules s (numberOf (reading s .answer)) (placeOf (reading s .answer))
+  refused = rw (Bench.answer-number s, Bench.answer-place s) (record {
+    long = long-rule;
+    fault = fault-rule;
+    seven = seven-rule;
+    eight = eight-rule;
+    first = λ d r f h. Accepted.words-place s d r f h;
+    none = none-rule;
+  })
