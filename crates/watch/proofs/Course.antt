@@ -21,7 +21,7 @@ use Rattle.meaning.specs.Room.{room}
 use Rattle.meaning.specs.Rows.{rows}
 use Rattle.meaning.specs.Sound.{eventLimit}
 use Rattle.meaning.specs.Runs as Runs
-use Rattle.form.specs.Text.{Bytes, Declarations, tracematchOf}
+use Rattle.form.specs.Text.{Bytes, isBytes, Declarations, tracematchOf}
 use Rattle.form.specs.Form.{Form}
 use Rattle.form.proofs.Faults.{either}
 use Rattle.record.specs.Records.{isRecord, eventIn}
