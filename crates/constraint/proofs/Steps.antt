@@ -27,10 +27,6 @@ use Rattle.constraint.specs.declared.Constraint.{Constraint}
 use Rattle.constraint.specs.Constraints.{viewDemand, demandsIn, viewConstraint, noDemand, noConstraint, Ready}
 use Rattle.constraint.proofs.Views.{emptyDemand, demands-length, demand-at}
 
--- the length of an array is that of what its elements are coded as
-pub length-mapped : {A B : Type 0} (f : A → B) (l : List A) {n : ℕ} → length (map f l) ≡ n → length l ≡ n
-length-mapped f l h = sym (length-map l f) ∙ h
-
 -- the counts are the lengths of what is counted
 pub matches-counts : (y : Symbol) (e : Event) → length (y .places) ≡ 4 → y .count ≤ 4 → length (e .args) ≡ 4 → e .count ≤ 4
     → Events.matches (viewSymbol y) (viewEvent e) ≡ (eqb (y .kind) (e .kind) && eqb (y .count) (e .count))
