@@ -13,8 +13,10 @@ use Rattle.work.specs.Bounded.{pick, withStart, freeIn}
 use Rattle.work.proofs.RowSets.{free-none}
 use Rattle.constraint.specs.Constraints.{viewConstraint}
 use Rattle.disjunct.specs.Disjuncts.{viewDisjunct}
+use Rattle.disjunct.proofs.Disjuncts.{free-view}
 use Rattle.sets.specs.Sets.{disjunctsIn}
-use Rattle.collect.proofs.Turns.{free-view, disjuncts-length, ahead, ahead-all, ahead-none, ahead-next, free-more, starts, starts-not}
+use Rattle.sets.proofs.Sets.{in-length}
+use Rattle.collect.proofs.Turns.{ahead, ahead-all, ahead-none, ahead-next, free-more, starts, starts-not}
 use Rattle.collect.proofs.free_at.Statement.{statement}
 use Rattle.collect.proofs.free_at.Tie as tie
 
@@ -80,7 +82,7 @@ next c e =
     let s = c .before .before .before .before .before in
     let a = s .args in
     ahead-next (a .q) (a .masks .now) (disjunctsIn (a .held .now)) (a .n) (c .before .before .before .loop .i)
-    (omega (arith, s .pre .0, disjuncts-length (a .held .now))) (c .before .before .loop-test .taken) (sym (c .has .ensures) ∙ e)
+    (omega (arith, s .pre .0, in-length (a .held .now))) (c .before .before .loop-test .taken) (sym (c .has .ensures) ∙ e)
 
 -- and the test of the first of them
 next-test : (c : tie.After-free-met2 Inv-loop μ-loop) {t : Bool} → c .free-met2 .result ≡ t → let s = c .before .before .before in

@@ -15,10 +15,12 @@ use Rattle.work.specs.Bounded.{pick, withStart, rowLimit, rowsWith}
 use Rattle.work.proofs.RowSets.{rows-none}
 use Rattle.constraint.specs.Constraints.{viewConstraint}
 use Rattle.disjunct.specs.Disjuncts.{viewDisjunct}
+use Rattle.disjunct.proofs.Disjuncts.{free-view}
 use Rattle.sets.specs.Sets.{disjunctsIn}
+use Rattle.sets.proofs.Sets.{in-length}
 use Rattle.rows.specs.Valuations.{rowsGrown}
 use Rattle.rows.proofs.Valuations.{in-grown}
-use Rattle.collect.proofs.Turns.{free-view, disjuncts-length, ahead, ahead-all, ahead-none, ahead-next, starts, starts-not}
+use Rattle.collect.proofs.Turns.{ahead, ahead-all, ahead-none, ahead-next, starts, starts-not}
 use Rattle.collect.proofs.Turns.{Sorted, listed, sorted-at, sorted-more, more, over}
 use Rattle.collect.proofs.rows_at.Statement.{statement}
 use Rattle.collect.proofs.rows_at.Tie as tie
@@ -118,7 +120,7 @@ next c e =
     let s = c .before .before .before .before .before in
     let a = s .args in
     ahead-next (a .q) (a .masks .now) (disjunctsIn (a .held .now)) (a .n) (c .before .before .before .loop .i)
-    (omega (arith, s .pre .0, disjuncts-length (a .held .now))) (c .before .before .loop-test .taken) (sym (c .has .ensures) ∙ e)
+    (omega (arith, s .pre .0, in-length (a .held .now))) (c .before .before .loop-test .taken) (sym (c .has .ensures) ∙ e)
 
 -- the row of the first of them
 next-put : (c : tie.After-add-row2 Inv-loop μ-loop) → let p = c .before .before .before .before .before .before .before .loop in
