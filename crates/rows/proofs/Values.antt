@@ -2,7 +2,7 @@
 -- For the recursive comparison of valuations and for the store of one.
 use mathlib.Core.Path.{_≡_, refl, ap, _∙_}
 use mathlib.Core.List.{List, [], _∷_}
-use Prim.Native.Nat.{ℕ, _+_, _≤_, _<_, Ordering, Ordering·lt, Ordering·eq, Ordering·gt}
+use Prim.Native.Nat.{ℕ, _+_, _≤_, _<_, Ordering·lt, Ordering·eq, Ordering·gt}
 use native.Mathlib.Numerals.{add-one}
 use native.Mathlib.Omega.{arith}
 use lib.ListN.{length, getD, drop, drop-of-length-le}
@@ -10,7 +10,6 @@ use lib.Seq.{drop-cons}
 use Rattle.laws.specs.Order.{flip}
 use Rattle.laws.proofs.Order.{lt-compare, compare-order}
 use Rattle.meaning.specs.Rows.{compareValuations}
-use Rattle.slot.specs.Slots.{rank}
 
 -- no value is left
 pub none-left : (a b : List ℕ) (k : ℕ) → length a ≤ k → length b ≤ k → compareValuations (drop k a) (drop k b) ≡ Ordering·eq
@@ -38,19 +37,3 @@ by-four (a ∷ b ∷ []) h = absurd (omega arith)
 by-four (a ∷ b ∷ c ∷ []) h = absurd (omega arith)
 by-four (a ∷ b ∷ c ∷ d ∷ []) h = refl
 by-four (a ∷ b ∷ c ∷ d ∷ e ∷ l) h = absurd (omega arith)
-
--- a comparison by its number
-pub ranked-before : (c : Ordering) → (rank c ≡ 2 → ⊥) → (rank c ≡ 1 → ⊥) → c ≡ Ordering·lt
-ranked-before Ordering·lt h k = refl
-ranked-before Ordering·eq h k = absurd (k refl)
-ranked-before Ordering·gt h k = absurd (h refl)
-
-pub ranked-same : (c : Ordering) → rank c ≡ 1 → c ≡ Ordering·eq
-ranked-same Ordering·lt h = absurd (omega arith)
-ranked-same Ordering·eq h = refl
-ranked-same Ordering·gt h = absurd (omega arith)
-
-pub ranked-after : (c : Ordering) → rank c ≡ 2 → c ≡ Ordering·gt
-ranked-after Ordering·lt h = absurd (omega arith)
-ranked-after Ordering·eq h = absurd (omega arith)
-ranked-after Ordering·gt h = refl
