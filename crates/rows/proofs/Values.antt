@@ -1,10 +1,8 @@
--- The comparison of two lists of values from the k-th value on, by their k-th values; and a list of four by its elements.
--- For the recursive comparison of valuations and for the store of one.
-use mathlib.Core.Path.{_≡_, refl, ap, _∙_}
-use mathlib.Core.List.{List, [], _∷_}
+-- The comparison of two lists of values from the k-th value on, by their k-th values. For the recursive comparison of valuations.
+use mathlib.Core.Path.{_≡_, ap, _∙_}
+use mathlib.Core.List.{List}
 use Prim.Native.Nat.{ℕ, _+_, _≤_, _<_, Ordering·lt, Ordering·eq, Ordering·gt}
 use native.Mathlib.Numerals.{add-one}
-use native.Mathlib.Omega.{arith}
 use lib.ListN.{length, getD, drop, drop-of-length-le}
 use lib.Seq.{drop-cons}
 use Rattle.laws.specs.Order.{flip}
@@ -29,11 +27,3 @@ module _ (a b : List ℕ) (k : ℕ) (p : k < length a) (q : k < length b) where
 
   pub first-same : getD a k 0 ≡ getD b k 0 → compareValuations (drop k a) (drop k b) ≡ compareValuations (drop (k + 1) a) (drop (k + 1) b)
   first-same h = rw (add-one k, drop-cons a k 0 p, drop-cons b k 0 q, h, compare-order .self (getD b k 0))
-
-pub by-four : (x : List ℕ) → length x ≡ 4 → x ≡ getD x 0 0 ∷ getD x 1 0 ∷ getD x 2 0 ∷ getD x 3 0 ∷ []
-by-four [] h = absurd (omega arith)
-by-four (a ∷ []) h = absurd (omega arith)
-by-four (a ∷ b ∷ []) h = absurd (omega arith)
-by-four (a ∷ b ∷ c ∷ []) h = absurd (omega arith)
-by-four (a ∷ b ∷ c ∷ d ∷ []) h = refl
-by-four (a ∷ b ∷ c ∷ d ∷ e ∷ l) h = absurd (omega arith)

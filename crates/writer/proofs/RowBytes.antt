@@ -14,6 +14,7 @@ use Rattle.laws.specs.Lists.{all, gather}
 use Rattle.laws.specs.Parts.{pad}
 use Rattle.laws.proofs.Lists.{all-at}
 use Rattle.laws.proofs.Parts.{pad-length, pad-full}
+use Rattle.laws.proofs.Places.{by-index}
 use Rattle.meaning.specs.Events.{Valuation}
 use Rattle.writer.specs.RowBytes.{wordBytes, rowBytes}
 
@@ -58,9 +59,4 @@ rows-length number variables l h =
 
 -- the values of a row of four words, written out
 pub four-words : (x : Valuation) → length x ≡ 4 → pad 4 0 x ≡ getD x 0 0 ∷ getD x 1 0 ∷ getD x 2 0 ∷ getD x 3 0 ∷ []
-four-words (a ∷ b ∷ c ∷ d ∷ []) h = pad-full 4 0 (a ∷ b ∷ c ∷ d ∷ []) (omega arith)
-four-words [] h = absurd (omega arith)
-four-words (a ∷ []) h = absurd (omega arith)
-four-words (a ∷ b ∷ []) h = absurd (omega arith)
-four-words (a ∷ b ∷ c ∷ []) h = absurd (omega arith)
-four-words (a ∷ b ∷ c ∷ d ∷ e ∷ x) h = absurd (omega arith)
+four-words x h = pad-full 4 0 x (omega arith) ∙ by-index 0 x 4 h
