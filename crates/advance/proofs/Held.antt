@@ -94,7 +94,8 @@ module _ (p m n : ℕ) (v at w : List ℕ) (few : m ≤ 128) (fits : n ≤ 128) 
 
       whole : heldIn (n + m) at′ w′ ≡ heldIn n at w ++ map (heldAt p) l
       whole =
-          ap₂ heldOf a d ∙ held-of-append (take n at) (replicate m p) (take n (disjunctsIn w)) l (length-take-le n at (omega arith) ∙ sym (taken-length w n fits))
+          let same = length-take-le n at (omega arith) ∙ sym (taken-length w n fits) in
+          ap₂ heldOf a d ∙ held-of-append (take n at) (replicate m p) (take n (disjunctsIn w)) l same
           ∙ ap (λ r. heldOf (take n at) (take n (disjunctsIn w)) ++ r)
           (ap (λ k. heldOf (replicate k p) l) (sym (taken-length v m few)) ∙ held-of-one p l)
 

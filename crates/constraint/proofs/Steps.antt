@@ -163,7 +163,8 @@ module _ (y : Symbol) (e : Event) (few : y .count ≤ 4) where
       (w, record { few = omega arith; within = rw w (demands-within 4 (viewSymbol y .places) (viewEvent e .args) s) })
 
 -- the constraint, by the answers of both tests
-pub constraint-by : (s : Events.Symbol) (e : Events.Event) {a b : Bool} → Events.matches s e ≡ a → Events.consistent (Events.demandsOf (s .places) (e .args)) ≡ b
+pub constraint-by : (s : Events.Symbol) (e : Events.Event) {a b : Bool} → Events.matches s e ≡ a
+    → Events.consistent (Events.demandsOf (s .places) (e .args)) ≡ b
     → Events.constraintOf s e ≡ cond (a && b) (Events.Constraint.demands (Events.demandsOf (s .places) (e .args))) Events.Constraint.never
 unfolding Events.constraintOf
 constraint-by s e h k =

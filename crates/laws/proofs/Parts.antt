@@ -5,7 +5,8 @@ use Prim.Native.Nat.{ℕ, suc, _+_, _-_, _≤_, _<_}
 use native.Mathlib.Omega.{arith}
 use native.Mathlib.Nat.{add-assoc}
 use native.Mathlib.Numerals.{add-one}
-use lib.ListN.{length, take, getD, set, replicate, length-map, length-append, length-take, length-drop, length-replicate, take-append-drop, getD-replicate, List·getD-append}
+use lib.ListN.{length, take, getD, set, replicate, length-map, length-append, length-take, length-drop, length-replicate, take-append-drop}
+use lib.ListN.{getD-replicate, List·getD-append}
 use lib.Seq.{length-take-le, take-suc, set-at, take-at, drop-at, take-append-seam, getD-append-add, getD-take, getD-drop, drop-drop}
 use Rattle.laws.specs.Parts.{front, splice, pad}
 use Rattle.laws.proofs.Maps.{map-replicate}
@@ -81,7 +82,8 @@ module _ {A : Type 0} where
       ap (λ k. set (l ++ replicate k d) (length l) x) e ∙ set-at l d _ x (length l) refl ∙ sym (append-assoc l (x ∷ []) _)
 
   -- the first i elements, padded, and element i in its place: the first i + 1, padded
-  pub pad-next : (n : ℕ) (d : A) (l : List A) (i : ℕ) (e : A) → i < length l → i < n → set (pad n d (take i l)) i (getD l i e) ≡ pad n d (take (i + 1) l)
+  pub pad-next : (n : ℕ) (d : A) (l : List A) (i : ℕ) (e : A) → i < length l → i < n
+      → set (pad n d (take i l)) i (getD l i e) ≡ pad n d (take (i + 1) l)
   pad-next n d l i e h g =
       let k = length-take-le i l (omega arith) in
       ap (λ j. set (pad n d (take i l)) j (getD l i e)) (sym k) ∙ pad-more n d (take i l) (getD l i e) (omega arith)

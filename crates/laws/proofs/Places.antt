@@ -48,7 +48,8 @@ module _ {A : Type 0} where
       getD-sets-other (set l i v) (suc i) vs j d (⊎-elim (λ a. inl (omega arith)) (λ b. inr (omega arith)) h)
       ∙ getD-set-other l i j v d (λ e. ⊎-elim (λ a. omega arith) (λ b. omega arith) h)
 
-  pub getD-sets-same : (l : List A) (i : ℕ) (vs : List A) (j : ℕ) (d : A) → i + length vs ≤ length l → j < length vs → getD (sets l i vs) (i + j) d ≡ getD vs j d
+  pub getD-sets-same : (l : List A) (i : ℕ) (vs : List A) (j : ℕ) (d : A) → i + length vs ≤ length l → j < length vs
+      → getD (sets l i vs) (i + j) d ≡ getD vs j d
   getD-sets-same l i (v ∷ vs) zero d h k =
       getD-sets-other (set l i v) (suc i) vs (i + 0) d (inl (omega arith)) ∙ ap (λ n. getD (set l i v) n d) (omega arith) ∙ getD-set-same l i v d (omega arith)
   getD-sets-same l i (v ∷ vs) (suc j) d h k =
@@ -93,7 +94,8 @@ module _ {A : Type 0} {cmp : A → A → Ordering} (o : IsOrder cmp) where
   ascending-until y (w ∷ a) b h z m = rising-until w y a b h z m
 
   -- so x, which is not before the element at i, is after all before that one
-  not-before : (x : A) (l : List A) (i : ℕ) (d : A) → ascending cmp l ≡ true → i < length l → (cmp x (getD l i d) ≡ Ordering·gt) ⊎ (cmp x (getD l i d) ≡ Ordering·eq)
+  not-before : (x : A) (l : List A) (i : ℕ) (d : A) → ascending cmp l ≡ true → i < length l
+      → (cmp x (getD l i d) ≡ Ordering·gt) ⊎ (cmp x (getD l i d) ≡ Ordering·eq)
       → (z : A) → List·Memᴰ z (take i l) → cmp x z ≡ Ordering·gt
   not-before x l i d ha h b z m =
       let y = getD l i d in

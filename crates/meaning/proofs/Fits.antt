@@ -83,7 +83,8 @@ fits-set [] D v y h = absurd (not-suc-le-zero h)
 fits-set (a ∷ σ) [] v y h = sym (and-false (admits y (getD (a ∷ σ) v 0)))
 fits-set (a ∷ σ) (x ∷ D) zero y h = refl
 fits-set (a ∷ σ) (x ∷ D) (suc v) y h =
-    ap (λ b. admits x a && b) (fits-set σ D v y (le-of-suc-le-suc h)) ∙ and-front (admits x a) (admits y (getD σ v 0)) (fits σ (set D v (free [])))
+    ap (λ b. admits x a && b) (fits-set σ D v y (le-of-suc-le-suc h))
+    ∙ and-front (admits x a) (admits y (getD σ v 0)) (fits σ (set D v (free [])))
 
 -- and one entry read
 fits-at : (σ : Valuation) (D : Disjunct) (v : ℕ) → v < length σ

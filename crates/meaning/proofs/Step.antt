@@ -47,7 +47,8 @@ symbol-inRange n s e h =
     constraint-inRange n s e (and-true-split (leb 1 (s .kind) && leb (s .kind) 255 && leb (length (s .places)) 4) (all (soundPlace n) (s .places)) h .1)
 
 -- a symbol by its number; out of range it is one that has no places
-pub numbered-inRange : (n : ℕ) (l : List Symbol) (i : ℕ) (e : Event) → all (soundSymbol n) l ≡ true → inRange n (constraintOf (getD l i noSymbol) e) ≡ true
+pub numbered-inRange : (n : ℕ) (l : List Symbol) (i : ℕ) (e : Event) → all (soundSymbol n) l ≡ true
+    → inRange n (constraintOf (getD l i noSymbol) e) ≡ true
 numbered-inRange n [] i e h = constraint-inRange n noSymbol e refl
 numbered-inRange n (s ∷ l) zero e h = symbol-inRange n s e (and-true-split (soundSymbol n s) (all (soundSymbol n) l) h .0)
 numbered-inRange n (s ∷ l) (suc i) e h = numbered-inRange n l i e (and-true-split (soundSymbol n s) (all (soundSymbol n) l) h .1)
@@ -112,7 +113,8 @@ module _ (b : Book) (formed : all (soundSymbol (b .variables)) (b .symbols) ≡ 
   old-long h m = eqb-true _ _ (all-at _ full m)
 
   newLabel-long : (p : ℕ) → Long (b .variables) (newLabel b held e p)
-  newLabel-long p D m = ⊎-elim (stepSet-long b held old-long e p D) (skipSet-long b held old-long e p D) (newLabel-member b held e p D .0 m .1)
+  newLabel-long p D m =
+      ⊎-elim (stepSet-long b held old-long e p D) (skipSet-long b held old-long e p D) (newLabel-member b held e p D .0 m .1)
 
   pub stepSet-wide : (q : ℕ) → all (λ D. eqb (length D) (b .variables)) (stepSet b held e q) ≡ true
   stepSet-wide q = all-of _ (stepSet b held e q) (λ D m. eq-eqb (length D) (b .variables) (stepSet-long b held old-long e q D m))

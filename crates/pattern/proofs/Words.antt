@@ -51,7 +51,8 @@ module _ (vars : ℕ → ℕ) (v : ℕ) where
       let u = free s (e .1) in
       (t .0 ++ u .0, (t .0, u .0, refl, t .1, u .1), rw (any-append, t .2, u .2))
   free (alt r s) h =
-      ⊎-elim (λ x. let t = free r x in (t .0, inl (t .1), t .2)) (λ y. let t = free s y in (t .0, inr (t .1), t .2)) (and-false-split _ _ (rw bit-meet at h))
+      ⊎-elim (λ x. let t = free r x in (t .0, inl (t .1), t .2)) (λ y. let t = free s y in (t .0, inr (t .1), t .2))
+      (and-false-split _ _ (rw bit-meet at h))
   free (star r) h = ([], none, refl)
   free (plus r) h = let t = free r h in (t .0, (t .0, [], sym (append-nil (t .0)), t .1, none), t .2)
   free (opt r) h = ([], inl refl, refl)

@@ -60,4 +60,5 @@ write-four w v i d h l p =
     let e₁ : i * 4 + 1 ≡ suc (i * 4) = omega arith in
     let e₂ : i * 4 + 2 ≡ suc (suc (i * 4)) = omega arith in
     let e₃ : i * 4 + 3 ≡ suc (suc (suc (i * 4))) = omega arith in
-    disjuncts-put w v i (x 0) (x 1) (x 2) (x 3) h (rw (e₁, e₂, e₃) at p) ∙ ap (λ xs. set (disjunctsIn w) i (map viewSlot xs)) (sym (by-index noSlot (d .vars) 4 l))
+    disjuncts-put w v i (x 0) (x 1) (x 2) (x 3) h (rw (e₁, e₂, e₃) at p)
+    ∙ ap (λ xs. set (disjunctsIn w) i (map viewSlot xs)) (sym (by-index noSlot (d .vars) 4 l))

@@ -84,7 +84,8 @@ module _ (n : ℕ) (s : State) (g : s .count ≤ length (s .positions)) (h : s .
   unfolding heldFirst
   held-length =
       let e = length-take-le (s .count) (s .positions) g in
-      held-of-length (take (s .count) (s .positions)) (map (λ d. take n (viewDisjunct d)) (take (s .count) (s .pool))) (e ∙ sym taken) ∙ taken
+      let l = map (λ d. take n (viewDisjunct d)) (take (s .count) (s .pool)) in
+      held-of-length (take (s .count) (s .positions)) l (e ∙ sym taken) ∙ taken
 
   pub held-at : (i : ℕ) (x : Held) (d : Disjunct) → i < s .count
       → getD (heldFirst n s) i x ≡ heldAt (getD (s .positions) i 0) (take n (viewDisjunct (getD (s .pool) i d)))

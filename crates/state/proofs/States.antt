@@ -57,7 +57,8 @@ pub state-wide : (number : ℕ) (held : List Held) → ((h : Held) → List·Mem
     → stateOf (record { number = number; held = map wideHeld held }) ≡ stateOf (record { number = number; held = held })
 unfolding stateOf wideHeld
 state-wide number held few =
-    let places : ℕ → List ℕ → List Disjunct → State = λ k p l. record { number = number; count = k; positions = pad 128 0 p; pool = pad 128 (disjunctOf []) l } in
+    let places : ℕ → List ℕ → List Disjunct → State =
+    λ k p l. record { number = number; count = k; positions = pad 128 0 p; pool = pad 128 (disjunctOf []) l } in
     let positions = map (λ h. h .position) (map wideHeld held) in
     let pool = map (λ h. disjunctOf (h .disjunct)) (map wideHeld held) in
     ap (λ k. places k positions pool) (length-map held wideHeld)

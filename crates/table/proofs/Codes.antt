@@ -27,7 +27,8 @@ module _ {A B : Type 0} (n : ℕ) (d : B) (f : A → B) where
   coded-more : (l : List A) (x : A) (k : ℕ) → length l ≡ k → k < n → set (pad n d (map f l)) k (f x) ≡ pad n d (map f (l ++ (x ∷ [])))
   coded-more l x k e h =
       let m : length (map f l) ≡ k = length-map l f ∙ e in
-      ap (λ j. set (pad n d (map f l)) j (f x)) (sym m) ∙ pad-more n d (map f l) (f x) (omega arith) ∙ ap (pad n d) (sym (map-append f l (x ∷ [])))
+      ap (λ j. set (pad n d (map f l)) j (f x)) (sym m) ∙ pad-more n d (map f l) (f x) (omega arith)
+      ∙ ap (pad n d) (sym (map-append f l (x ∷ [])))
 
   module _ (g : B → A) (back : (x : A) → g (f x) ≡ x) where
     map-back : (l : List A) → map g (map f l) ≡ l
@@ -184,7 +185,8 @@ ready-symbol s t r c x i y l d =
     let v = viewTable t in
     let f = ready-fits s t r in
     let a = ready-parts s t r in
-    let p = coded-more 20 noName nameOf (v .variables ++ v .symbols) x (t .variables + t .count) (rw length-append (omega arith)) (omega arith) in
+    let many : length (v .variables ++ v .symbols) ≡ t .variables + t .count = rw length-append (omega arith) in
+    let p = coded-more 20 noName nameOf (v .variables ++ v .symbols) x (t .variables + t .count) many (omega arith) in
     let q = coded-more 16 (symbolOf noSymbol) symbolOf (v .table) y (t .count) (sym (a .count)) c in
     let w : Lines.Table = record { variables = v .variables; symbols = v .symbols ++ (x ∷ []); table = v .table ++ (y ∷ []) } in
     let g : Fits w =

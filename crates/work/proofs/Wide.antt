@@ -12,7 +12,8 @@ use borrow.Author.Tests.{leb-true, eqb-true, eq-eqb}
 use Rattle.laws.specs.Lists.{any, all, keep, gather}
 use Rattle.laws.specs.Order.{andThen}
 use Rattle.laws.specs.Sets.{insertAll, setOf}
-use Rattle.laws.proofs.Lists.{and-true-split, mem-keep, all-of, any-agree, all-agree, keep-agree, any-map, all-map, any-keep, all-at, mem-map, mem-gather, mem-picked}
+use Rattle.laws.proofs.Lists.{and-true-split, any-agree, any-map, any-keep, all-agree, all-map, all-at, all-of, keep-agree}
+use Rattle.laws.proofs.Lists.{mem-keep, mem-map, mem-gather, mem-picked}
 use Rattle.laws.proofs.Maps.{map-agree, gather-agree, keep-map, gather-map, map-gather, ascending-map, insertAll-map, setOf-map}
 use Rattle.meaning.specs.Events.{Event, Constraint, Valuation, constraintOf}
 use Rattle.meaning.specs.Book.{Book, soundSymbol, soundBook, positions, beginsAt, endsAt, followsAt, goesOn, symbolOf}
@@ -80,7 +81,8 @@ module _ (n : ℕ) where
       let s = and-true-split (inRange n c) (all (inRange n) cs) k in
       ap (skipThrough cs) (skipBy-wide c l (s .0) h) ∙ skipThrough-wide cs (skipBy c l) (s .1) (skipBy-long n c l h)
 
-  skipRoom-wide : (cs : List Constraint) (l : List Disjunct) → all (inRange n) cs ≡ true → Long n l → skipRoom cs (map wide l) ≡ skipRoom cs l
+  skipRoom-wide : (cs : List Constraint) (l : List Disjunct) → all (inRange n) cs ≡ true → Long n l
+      → skipRoom cs (map wide l) ≡ skipRoom cs l
   skipRoom-wide [] l k h = refl
   skipRoom-wide (c ∷ cs) l k h =
       let s = and-true-split (inRange n c) (all (inRange n) cs) k in
@@ -167,7 +169,8 @@ module _ (b : Book) (sb : soundBook b ≡ true) (held : List Held) (sh : soundHe
     unfolding skipSet wideBook
     skip-wide p =
         let cs = map (λ s. constraintOf s e) (b .symbols) in
-        ap (skipThrough cs) (label-wide held p) ∙ skipThrough-wide (b .variables) cs (labelOf held p) constraints-range (label-long b held held-long p)
+        ap (skipThrough cs) (label-wide held p)
+        ∙ skipThrough-wide (b .variables) cs (labelOf held p) constraints-range (label-long b held held-long p)
 
     new-wide : (p : ℕ) → newLabel (wideBook b) (map wideHeld held) e p ≡ map wide (newLabel b held e p)
     unfolding newLabel wideBook
@@ -195,7 +198,8 @@ module _ (b : Book) (sb : soundBook b ≡ true) (held : List Held) (sh : soundHe
         ap₂ _&&_ (ap₂ _&&_
         (all-agree _ _ (positions b) (λ q m. ap (λ k. leb k heldLimit) (ap length (step-wide q) ∙ length-map (stepSet b held e q) wide)))
         (all-agree _ _ (positions b)
-        (λ p m. ap (skipRoom cs) (label-wide held p) ∙ skipRoom-wide (b .variables) cs (labelOf held p) constraints-range (label-long b held held-long p))))
+        (λ p m. ap (skipRoom cs) (label-wide held p)
+        ∙ skipRoom-wide (b .variables) cs (labelOf held p) constraints-range (label-long b held held-long p))))
         (ap (λ k. leb k heldLimit) (ap length wide-held ∙ length-map (newHeld b held e) wideHeld))
 
     step-rows : (q : ℕ) → map valuationOf (stepSet (wideBook b) (map wideHeld held) e q) ≡ map wideValuation (map valuationOf (stepSet b held e q))
@@ -221,4 +225,5 @@ module _ (b : Book) (sb : soundBook b ≡ true) (held : List Held) (sh : soundHe
     wide-free =
         any-agree _ _ (keep (endsAt b) (positions b)) λ q m.
         let c = constraintOf (symbolOf b q) e in
-        ap (freeIn (b .variables) c) (sources-wide q) ∙ freeIn-wide (b .variables) c (sources b held q) (constraint-range q) (sources-long b held held-long q)
+        ap (freeIn (b .variables) c) (sources-wide q)
+        ∙ freeIn-wide (b .variables) c (sources b held q) (constraint-range q) (sources-long b held held-long q)

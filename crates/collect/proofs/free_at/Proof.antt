@@ -54,7 +54,10 @@ loop-holds c =
     let all = ap (freeIn (a .v) (viewConstraint (a .c))) (ahead-all (a .q) (a .masks .now) (disjunctsIn (a .held .now)) (a .n)) in (
       omega arith,
       ⊎-elim
-          (λ w. all ∙ sym (first (record { before = record { before = record { before = c .before; if1 = w .0 }; free = w .1 }; free-met = w .2 }) (w .3 .left)))
+          (λ w.
+          let met : tie.After-free-met Inv-loop μ-loop =
+          record { before = record { before = record { before = c .before; if1 = w .0 }; free = w .1 }; free-met = w .2 } in
+          all ∙ sym (first met (w .3 .left)))
           (λ w. all ∙ ap (freeIn (a .v) (viewConstraint (a .c))) (starts-not (w .left) _))
           (c .if1 .came),
     )
@@ -112,7 +115,10 @@ loop-again c =
     let a = c .before .before .before .before .before .before .args in (
       omega arith,
       ⊎-elim
-          (λ w. sym (next-test (record { before = record { before = record { before = c .before; if3 = w .0 }; get = w .1 }; free-met2 = w .2 }) (w .3 .left)) ∙ p .inv .1)
+          (λ w.
+          let met : tie.After-free-met2 Inv-loop μ-loop =
+          record { before = record { before = record { before = c .before; if3 = w .0 }; get = w .1 }; free-met2 = w .2 } in
+          sym (next-test met (w .3 .left)) ∙ p .inv .1)
           (λ w. sym (ap (freeIn (a .v) (viewConstraint (a .c))) (next (c .before) (w .left))) ∙ p .inv .1)
           (c .if3 .came),
     )

@@ -82,8 +82,12 @@ begun c =
     let all = ahead-all (a .q) (a .masks .now) (disjunctsIn (a .held .now)) (a .n) in
     ⊎-elim
     (λ w.
-    let e = ap₂ rowsGrown (w .6) (w .5)
-    ∙ first-put (record { before = record { before = record { before = record { before = c .before; if1 = w .0 }; add-row-arg = w .1 }; free = w .2 }; add-row = w .3 }) in
+    let put : tie.After-add-row Inv-loop μ-loop =
+    record {
+      before = record { before = record { before = record { before = c .before; if1 = w .0 }; add-row-arg = w .1 }; free = w .2 };
+      add-row = w .3;
+    } in
+    let e = ap₂ rowsGrown (w .6) (w .5) ∙ first-put put in
     let h : c .if1 .k ≤ rowLimit = omega (arith, w .6, w .4 .left) in (
       sorted-more C (freeDisjunct 4 ∷ []) (entered (c .before)) (c .if1 .k) (c .if1 .out) e h,
       more C (freeDisjunct 4 ∷ []) (entered (c .before)) (c .if1 .k) (c .if1 .out) e h _
@@ -156,8 +160,12 @@ loop-again c =
     let C = viewConstraint (s .args .c) in
     ⊎-elim
     (λ w.
-    let e = ap₂ rowsGrown (w .6) (w .5)
-    ∙ next-put (record { before = record { before = record { before = record { before = t; if3 = w .0 }; get = w .1 }; add-row-arg2 = w .2 }; add-row2 = w .3 }) in
+    let put : tie.After-add-row2 Inv-loop μ-loop =
+    record {
+      before = record { before = record { before = record { before = t; if3 = w .0 }; get = w .1 }; add-row-arg2 = w .2 };
+      add-row2 = w .3;
+    } in
+    let e = ap₂ rowsGrown (w .6) (w .5) ∙ next-put put in
     let h : c .if3 .k ≤ rowLimit = omega (arith, w .6, w .4 .left) in (
       omega arith,
       sorted-more C _ (p .inv .1) (c .if3 .k) (c .if3 .out) e h,

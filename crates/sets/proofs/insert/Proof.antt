@@ -24,8 +24,8 @@ returns c =
     let s = c .before .before .before in
     let a = s .args in
     let w = a .words .now in
-    in-counted (a .n) w
-    ∙ insert-found compareDisjuncts 128 (a .n) (disjunctsIn w) (viewDisjunct (a .d)) (s .pre .0) (room s) (c .before .place-of .ensures .0 (c .if1 .taken))
+    let there = c .before .place-of .ensures .0 (c .if1 .taken) in
+    in-counted (a .n) w ∙ insert-found compareDisjuncts 128 (a .n) (disjunctsIn w) (viewDisjunct (a .d)) (s .pre .0) (room s) there
 
 returns-2 : tie.Need-returns-2
 returns-2 c =
@@ -35,7 +35,8 @@ returns-2 c =
     let h = p .ensures .1 (c .before .if1 .left) in
     let w = a .words .now in
     in-full 129 w (omega arith)
-    ∙ insert-over compareDisjuncts 128 (a .n) (disjunctsIn w) (viewDisjunct (a .d)) (s .pre .0) (room s) (p .result .at) (h .0) (h .1) (c .if2 .taken)
+    ∙ insert-over compareDisjuncts 128 (a .n) (disjunctsIn w) (viewDisjunct (a .d)) (s .pre .0) (room s)
+    (p .result .at) (h .0) (h .1) (c .if2 .taken)
 
 shift-requires : tie.Need-shift-requires
 shift-requires c κs =
@@ -59,8 +60,9 @@ returns-3 c =
     let h = p .ensures .1 (c .before .before .before .before .before .if1 .left) in
     let m = c .before .before .shift in
     in-counted (a .n + 1) (c .put .last .0)
-    ∙ insert-put compareDisjuncts 128 (a .n) (disjunctsIn (a .words .now)) (viewDisjunct (a .d)) (s .pre .0) (room s) (p .result .at) (h .0) (h .1)
-    (disjunctsIn (m .last .0)) (disjunctsIn (c .put .last .0)) (omega (arith, s .pre .0)) (omega (arith, s .pre .0, in-length (m .last .0)))
+    ∙ insert-put compareDisjuncts 128 (a .n) (disjunctsIn (a .words .now)) (viewDisjunct (a .d)) (s .pre .0) (room s)
+    (p .result .at) (h .0) (h .1) (disjunctsIn (m .last .0)) (disjunctsIn (c .put .last .0))
+    (omega (arith, s .pre .0)) (omega (arith, s .pre .0, in-length (m .last .0)))
     (record { upto = h .0; before = m .ensures .0; behind = m .ensures .1 }) (c .put .ensures)
 
 pub insert-spec : {M : Type 1} → statement M

@@ -56,10 +56,9 @@ answer c =
 
 returns : tie.Need-returns Inv-loop μ-loop
 returns c =
-    let k = c .before in (
-      λ f. absurd (false≢true f),
-      λ f. (k .before .before .before .loop .inv .upto, passed-behind (compared k) [] (rank-equal _ Ordering·gt (sym (answer k) ∙ c .if1 .taken))),
-    )
+    let k = c .before in
+    let after = rank-equal _ Ordering·gt (sym (answer k) ∙ c .if1 .taken) in
+    (λ f. absurd (false≢true f), λ f. (k .before .before .before .loop .inv .upto, passed-behind (compared k) [] after))
 
 sub-t9 : tie.Need-sub-t9 Inv-loop μ-loop
 sub-t9 c = search needs
