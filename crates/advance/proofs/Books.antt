@@ -61,7 +61,8 @@ module _ (b : Book) (i : ℕ) (h : i < b .positions) (long : length (b .occurren
   unfolding viewBook
   number-in s =
       let t = length-take-le (b .positions) (b .occurrences) (omega arith) in
-      let r = all-at (λ a. ltb a (length (viewBook b .symbols))) (symbols-below (viewBook b) s) (mem-getD (take (b .positions) (b .occurrences)) i 0 (omega arith)) in
+      let m = mem-getD (take (b .positions) (b .occurrences)) i 0 (omega arith) in
+      let r = all-at (λ a. ltb a (length (viewBook b .symbols))) (symbols-below (viewBook b) s) m in
       ltb-true number _ (rw (getD-take (b .positions) (b .occurrences) i 0 h) at r)
 
   pub number-below : Plain.soundBook (viewBook b) ≡ true → number < b .symbols
@@ -111,7 +112,8 @@ module _ (b : Book) (cs : List Constraint) (held at : List ℕ) (n : ℕ) where
       → ascending compareDisjuncts (pick (eqb q) (take n at) (take n (disjunctsIn held))) ≡ true
   unfolding heldIn
   ascending-at q s =
-      ap (ascending compareDisjuncts) (sym (label-pick (take n at) (take n (disjunctsIn held)) q)) ∙ label-ascending (wideBook (viewBook b)) (heldIn n at held) q s
+      ap (ascending compareDisjuncts) (sym (label-pick (take n at) (take n (disjunctsIn held)) q))
+      ∙ label-ascending (wideBook (viewBook b)) (heldIn n at held) q s
 
   pub advancing-none : (positions words : List ℕ) → length (b .occurrences) ≡ 31 → b .positions ≤ 31 → Advancing 0 0 positions words
   unfolding heldIn
@@ -154,7 +156,8 @@ module _ (b : Book) (cs : List Constraint) (held at : List ℕ) (n : ℕ) where
         ≡ labelAt (wideBook (viewBook b)) (heldIn n at held) e (i + 1)
     unfolding heldIn
     label-at e t =
-        rw (constraint-at e t, t, begins-at, ← followers-at b i h long few, followed) (labelled-at (viewBook b) (take n at) (take n (disjunctsIn held)) e (i + 1))
+        rw (constraint-at e t, t, begins-at, ← followers-at b i h long few, followed)
+        (labelled-at (viewBook b) (take n at) (take n (disjunctsIn held)) e (i + 1))
 
     turned : (e : Events.Event) → Told e → ahead e (i + 1) (heldGrown r positions′ words′) ≡ result e
     turned e t =

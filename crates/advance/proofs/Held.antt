@@ -9,20 +9,16 @@ use native.Mathlib.Omega.{arith}
 use lib.Dec.{leb}
 use lib.ListN.{length, take, set, replicate, length-map, length-append, replicate-append-replicate}
 use lib.Seq.{length-take-le, take-suc-set}
-use borrow.Author.Tests.{leb-true, leb-false, le-leb, lt-leb}
+use borrow.Author.Tests.{le-leb, lt-leb}
 use Rattle.laws.specs.Sets.{Grown, full, grown}
+use Rattle.laws.proofs.Turns.{counted-few, counted-over, few-counted, over-counted}
 use Rattle.meaning.specs.Labels.{Disjunct, Held, heldAt}
 use Rattle.meaning.specs.Room.{heldLimit}
 use Rattle.work.specs.Bounded.{heldOf, appended}
+use Rattle.work.proofs.Picks.{held-of-length}
 use Rattle.sets.specs.Sets.{disjunctsIn, grownIn}
 use Rattle.sets.proofs.Sets.{in-length, in-grown, in-full}
 use Rattle.advance.specs.Held.{heldIn, heldGrown}
-
-held-of-length : (ps : List ℕ) (l : List Disjunct) → length ps ≡ length l → length (heldOf ps l) ≡ length l
-held-of-length [] [] h = refl
-held-of-length [] (D ∷ l) h = h
-held-of-length (p ∷ ps) [] h = refl
-held-of-length (p ∷ ps) (D ∷ l) h = ap suc (held-of-length ps l (omega arith))
 
 held-of-append : (ps qs : List ℕ) (k l : List Disjunct) → length ps ≡ length k → heldOf (ps ++ qs) (k ++ l) ≡ heldOf ps k ++ heldOf qs l
 held-of-append [] qs [] l h = refl
@@ -47,27 +43,19 @@ module _ (n : ℕ) (at w : List ℕ) where
 
   pub grown-held : (h : List Held) → heldGrown n at w ≡ grown h → (n ≤ 128) × (heldIn n at w ≡ h)
   unfolding heldGrown
-  grown-held h e = go (leb n 128) refl e
-    where
-      go : (t : Bool) → leb n 128 ≡ t → cond t (grown (heldIn n at w)) full ≡ grown h → (n ≤ 128) × (heldIn n at w ≡ h)
-      go true p q = (leb-true n 128 p, cc)
-      go false p q = absurd (let z : _≡_ {A = ℕ} 0 1 = cc in omega arith)
+  grown-held h e = few-counted 128 n (heldIn n at w) h e
 
   pub full-held : heldGrown n at w ≡ full → 128 < n
   unfolding heldGrown
-  full-held e = go (leb n 128) refl e
-    where
-      go : (t : Bool) → leb n 128 ≡ t → cond t (grown (heldIn n at w)) full ≡ full → 128 < n
-      go true p q = absurd (let z : _≡_ {A = ℕ} 0 1 = cc in omega arith)
-      go false p q = leb-false n 128 p
+  full-held e = over-counted 128 n (heldIn n at w) e
 
   pub held-grown : n ≤ 128 → heldGrown n at w ≡ grown (heldIn n at w)
   unfolding heldGrown
-  held-grown h = rw (le-leb n 128 h)
+  held-grown h = counted-few 128 n (heldIn n at w) h
 
   pub held-full : 128 < n → heldGrown n at w ≡ full
   unfolding heldGrown
-  held-full h = rw (lt-leb n 128 h)
+  held-full h = counted-over 128 n (heldIn n at w) h
 
 -- the first n positions, then i times p: none of them written yet, and one more written
 pub positions-none : (at : List ℕ) (n p : ℕ) → take (n + 0) at ≡ take n at ++ replicate 0 p
@@ -106,7 +94,8 @@ module _ (p m n : ℕ) (v at w : List ℕ) (few : m ≤ 128) (fits : n ≤ 128) 
 
       whole : heldIn (n + m) at′ w′ ≡ heldIn n at w ++ map (heldAt p) l
       whole =
-          ap₂ heldOf a d ∙ held-of-append (take n at) (replicate m p) (take n (disjunctsIn w)) l (length-take-le n at (omega arith) ∙ sym (taken-length w n fits))
+          let same = length-take-le n at (omega arith) ∙ sym (taken-length w n fits) in
+          ap₂ heldOf a d ∙ held-of-append (take n at) (replicate m p) (take n (disjunctsIn w)) l same
           ∙ ap (λ r. heldOf (take n at) (take n (disjunctsIn w)) ++ r)
           (ap (λ k. heldOf (replicate k p) l) (sym (taken-length v m few)) ∙ held-of-one p l)
 

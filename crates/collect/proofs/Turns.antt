@@ -2,50 +2,25 @@
 -- the proofs of the functions.
 use mathlib.Core.Path.{_≡_, refl, sym, ap, _∙_}
 use mathlib.Core.Bool.{Bool, true, false, cond, _||_}
-use mathlib.Core.List.{List, [], _∷_, _++_, map}
-use Prim.Native.Nat.{ℕ, zero, suc, _+_, _*_, _≤_, _<_}
+use mathlib.Core.List.{List, [], _∷_, _++_}
+use Prim.Native.Nat.{ℕ, _+_, _≤_, _<_}
 use native.Mathlib.Numerals.{add-one}
 use native.Mathlib.Omega.{arith}
-use lib.ListN.{length, take, drop, getD, length-map, length-take, drop-of-length-le}
-use lib.Seq.{length-take-le, drop-nil, getD-take}
+use lib.ListN.{length, take, drop, getD}
+use lib.Seq.{length-take-le, getD-take}
 use Rattle.laws.specs.Bits.{bit}
-use Rattle.laws.specs.Lists.{numbers}
 use Rattle.laws.specs.Order.{ascending}
 use Rattle.laws.specs.Sets.{Grown, grown}
-use Rattle.laws.specs.Parts.{pad}
 use Rattle.laws.proofs.Bits.{bit-zero}
-use Rattle.laws.proofs.Lists.{length-numbers}
+use Rattle.laws.proofs.Lists.{taken-none}
 use Rattle.meaning.specs.Events.{Constraint, Valuation}
 use Rattle.meaning.specs.Labels.{Disjunct, freeDisjunct}
 use Rattle.meaning.specs.Rows.{compareValuations}
-use Rattle.slot.specs.Slots.{viewSlot, slotOf}
 use Rattle.work.specs.Bounded.{pick, withStart, rowLimit, rowsWith, freeIn}
+use Rattle.work.proofs.Picks.{pick-next}
 use Rattle.work.proofs.RowSets.{rows-append, rows-full, rows-ascending, free-append}
-use Rattle.disjunct.specs.Disjuncts.{viewDisjunct, disjunctOf}
-use Rattle.sets.specs.Sets.{entryAt, disjunctsIn}
 use Rattle.rows.specs.Valuations.{valuationsIn, rowsGrown}
 use Rattle.rows.proofs.Valuations.{in-grown, in-full}
-
--- the view of the code's free disjunct
-pub free-view : viewDisjunct (disjunctOf (freeDisjunct 4)) ≡ freeDisjunct 4
-unfolding viewDisjunct disjunctOf viewSlot slotOf pad
-free-view = refl
-
--- words hold 128 disjuncts
-first-length : (w : List ℕ) (n : ℕ) → length (map (λ i. map (λ v. entryAt w (i * 28 + v * 7)) (numbers 0 4)) (numbers 0 n)) ≡ n
-first-length w n = length-map (numbers 0 n) _ ∙ length-numbers 0 n
-
-pub disjuncts-length : (w : List ℕ) → length (disjunctsIn w) ≡ 128
-unfolding disjunctsIn
-disjuncts-length w = first-length w 128
-
--- what is picked from number i on, by the first of it; a mask that is not there has no position
-pick-next : {B : Type 0} (f : ℕ → Bool) → f 0 ≡ false → (i : ℕ) (k : List ℕ) (l : List B) (d : B) → i < length l
-    → let r = pick f (drop (suc i) k) (drop (suc i) l) in pick f (drop i k) (drop i l) ≡ cond (f (getD k i 0)) (getD l i d ∷ r) r
-pick-next f z i k [] d h = absurd (omega arith)
-pick-next f z i [] (y ∷ l) d h = rw (drop-nil i, z)
-pick-next f z zero (x ∷ k) (y ∷ l) d h = refl
-pick-next f z (suc i) (x ∷ k) (y ∷ l) d h = pick-next f z i k l d (omega arith)
 
 module _ (q : ℕ) (masks : List ℕ) (l : List Disjunct) (n : ℕ) where
   -- the disjuncts from number i on whose mask has position q
@@ -58,9 +33,7 @@ module _ (q : ℕ) (masks : List ℕ) (l : List Disjunct) (n : ℕ) where
 
   pub ahead-none : (i : ℕ) → n ≤ i → ahead i ≡ []
   unfolding ahead
-  ahead-none i h =
-      let few : length (take n masks) ≤ i = omega (arith, length-take n masks) in
-      ap (λ xs. pick (λ x. bit q x) xs (drop i (take n l))) (drop-of-length-le (take n masks) few)
+  ahead-none i h = ap (λ xs. pick (λ x. bit q x) xs (drop i (take n l))) (taken-none masks n i h)
 
   -- the first of them
   pub ahead-next : (i : ℕ) {t : Bool} → n ≤ length l → i < n → bit q (getD masks i 0) ≡ t

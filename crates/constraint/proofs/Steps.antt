@@ -27,10 +27,6 @@ use Rattle.constraint.specs.declared.Constraint.{Constraint}
 use Rattle.constraint.specs.Constraints.{viewDemand, demandsIn, viewConstraint, noDemand, noConstraint, Ready}
 use Rattle.constraint.proofs.Views.{emptyDemand, demands-length, demand-at}
 
--- the length of an array is that of what its elements are coded as
-pub length-mapped : {A B : Type 0} (f : A → B) (l : List A) {n : ℕ} → length (map f l) ≡ n → length l ≡ n
-length-mapped f l h = sym (length-map l f) ∙ h
-
 -- the counts are the lengths of what is counted
 pub matches-counts : (y : Symbol) (e : Event) → length (y .places) ≡ 4 → y .count ≤ 4 → length (e .args) ≡ 4 → e .count ≤ 4
     → Events.matches (viewSymbol y) (viewEvent e) ≡ (eqb (y .kind) (e .kind) && eqb (y .count) (e .count))
@@ -167,7 +163,8 @@ module _ (y : Symbol) (e : Event) (few : y .count ≤ 4) where
       (w, record { few = omega arith; within = rw w (demands-within 4 (viewSymbol y .places) (viewEvent e .args) s) })
 
 -- the constraint, by the answers of both tests
-pub constraint-by : (s : Events.Symbol) (e : Events.Event) {a b : Bool} → Events.matches s e ≡ a → Events.consistent (Events.demandsOf (s .places) (e .args)) ≡ b
+pub constraint-by : (s : Events.Symbol) (e : Events.Event) {a b : Bool} → Events.matches s e ≡ a
+    → Events.consistent (Events.demandsOf (s .places) (e .args)) ≡ b
     → Events.constraintOf s e ≡ cond (a && b) (Events.Constraint.demands (Events.demandsOf (s .places) (e .args))) Events.Constraint.never
 unfolding Events.constraintOf
 constraint-by s e h k =

@@ -1,6 +1,6 @@
 // Damage to the book of `main`: three symbols (the first with one place, the others with two), two variables, two positions.
 // Kind 0 leaves it, 1 to 14 take it out of what document 01 calls sound, 15 lets a word end at position 1, where `s` is free.
-use crate::draws;
+use crate::amounts;
 use book::Book;
 use table::Name;
 use table::Place;
@@ -26,19 +26,19 @@ fn miscounted(b: Book, kind: u32, x: u64, y: u64) -> Book {
     let mut r = b;
     match kind {
         1 => {
-            r.variables = draws::above(5, x);
+            r.variables = amounts::above(5, x);
         }
         2 => {
             r.symbols = 0;
         }
         3 => {
-            r.symbols = draws::above(17, x);
+            r.symbols = amounts::above(17, x);
         }
         4 => {
             return without_positions(b, y);
         }
         5 => {
-            r.positions = draws::above(32, x);
+            r.positions = amounts::above(32, x);
         }
         _ => {}
     }
@@ -67,7 +67,7 @@ fn mismatched(b: Book, kind: u32, x: u64, y: u64) -> Book {
     let i = (y % 2) as usize;
     let mut r = b;
     if kind == 8 {
-        r.occurrences[i] = draws::above_short(3, x);
+        r.occurrences[i] = amounts::above_short(3, x);
         return r;
     }
     r.empty = true;
@@ -110,11 +110,11 @@ fn symbol(s: Symbol, kind: u32, x: u64, y: u64) -> Symbol {
         return r;
     }
     if kind == 11 {
-        r.kind = draws::above_short(256, x);
+        r.kind = amounts::above_short(256, x);
         return r;
     }
     if kind == 12 {
-        r.count = draws::above(5, x);
+        r.count = amounts::above(5, x);
         return r;
     }
     if s.count == 2 && y % 2 == 1 {
@@ -131,19 +131,19 @@ fn symbol(s: Symbol, kind: u32, x: u64, y: u64) -> Symbol {
 fn argument(p: Place, kind: u32, x: u64) -> Place {
     if kind == 13 {
         return Place {
-            tag: draws::above_short(2, x),
+            tag: amounts::above_short(2, x),
             number: p.number,
         };
     }
     Place {
         tag: 1,
-        number: draws::above_short(2, x),
+        number: amounts::above_short(2, x),
     }
 }
 
 // What no count reaches filled with x: names (which no event call reads), symbols, their places, positions.
 pub fn spare(b: Book, x: u64) -> Book {
-    let short = draws::short(x);
+    let short = amounts::short(x);
     let p = Place {
         tag: short,
         number: short,
@@ -176,7 +176,7 @@ fn words(a: [u32; 31], x: u32) -> [u32; 31] {
 
 fn symbols(a: [Symbol; 16], p: Place, x: u64) -> [Symbol; 16] {
     let other = Symbol {
-        kind: draws::short(x),
+        kind: amounts::short(x),
         count: x as usize,
         places: [p; 4],
     };

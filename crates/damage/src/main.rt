@@ -1,7 +1,7 @@
 // Damaged books, states, records, places, buffers and tallies, from a generator with a fixed start, are lent to the event call, and all
 // that it leaves is compared with what document 01 says. Prints how many cases there were, how they were answered, and the differences.
+mod amounts;
 mod books;
-mod draws;
 mod moves;
 mod records;
 mod same;
@@ -56,7 +56,7 @@ fn kind(seed: u64, k: u64, kinds: u64) -> u32 {
     if draws::below(seed, k, 4) != 0 {
         return 0;
     }
-    draws::short(1 + draws::below(seed, k % 1000 + 1, kinds) % 1000)
+    amounts::short(1 + draws::below(seed, k % 1000 + 1, kinds) % 1000)
 }
 
 fn damages(seed: u64, held: usize) -> Kinds {
@@ -78,7 +78,7 @@ fn drawn_space(seed: u64) -> Space {
         0..=2 => spaced(size, place),
         3..=4 => spaced(24 + size % 40, size % 40 + near % 2),
         5 => spaced(size, size % 64 + near % 2),
-        6 => spaced(size, draws::amount(seed, 44) as usize),
+        6 => spaced(size, amounts::amount(seed, 44) as usize),
         _ => spaced(64, place % 41),
     }
 }
@@ -92,25 +92,25 @@ fn spaced(size: usize, place: usize) -> Space {
 
 // The book that is lent: what no count reaches filled, one time in two, and then the damage.
 fn lent_book(seed: u64, b: Book, kind: u32) -> Book {
-    let x = draws::amount(seed, 50);
+    let x = amounts::amount(seed, 50);
     let y = draws::below(seed, 52, 1000000);
     if draws::below(seed, 53, 2) == 0 {
         return books::damaged(b, kind, x, y);
     }
-    let c = books::spare(b, draws::amount(seed, 54));
+    let c = books::spare(b, amounts::amount(seed, 54));
     books::damaged(c, kind, x, y)
 }
 
 // The state, in the same way.
 fn lent_state(seed: u64, m: Move, kind: u32) -> State {
     let h = m.held;
-    let x = draws::amount(seed, 60);
+    let x = amounts::amount(seed, 60);
     let y = draws::below(seed, 62, 1000000);
     if draws::below(seed, 63, 2) == 0 {
         let s = states::clean(h);
         return states::damaged(s, kind, x, y);
     }
-    let s = states::spare(h, draws::amount(seed, 64));
+    let s = states::spare(h, amounts::amount(seed, 64));
     states::damaged(s, kind, x, y)
 }
 
@@ -119,23 +119,23 @@ fn lent_record(seed: u64, m: Move, kind: u32) -> Lent {
     records::damaged(
         l,
         kind,
-        draws::amount(seed, 70),
+        amounts::amount(seed, 70),
         draws::below(seed, 72, 1000000),
     )
 }
 
 fn lent_tally(seed: u64) -> Tally {
     Tally {
-        accepted: draws::counter(seed, 80),
-        refused: draws::counter(seed, 84),
-        rows: draws::counter(seed, 88),
+        accepted: amounts::counter(seed, 80),
+        refused: amounts::counter(seed, 84),
+        rows: amounts::counter(seed, 88),
     }
 }
 
 fn fill(seed: u64, out: &mut [u8]) {
     let mut i: usize = 0;
     while i < out.len() {
-        out[i] = draws::byte(draws::below(seed, 1000 + i as u64 % 1000, 256));
+        out[i] = amounts::byte(draws::below(seed, 1000 + i as u64 % 1000, 256));
         i += 1;
     }
 }

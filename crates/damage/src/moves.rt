@@ -1,6 +1,6 @@
 // Events for four states of the book of `main`, and what document 01 says of each: its rows, and the state that it leaves.
 // The states: two partial matches with different values of `d`, two with the same, one with six exclusions, and the fresh one.
-use crate::draws;
+use crate::amounts;
 use crate::states;
 use crate::states::Held;
 use disjunct::Disjunct;
@@ -168,13 +168,13 @@ fn number(seed: u64, reached: u32) -> u32 {
     match draws::below(seed, 10, 8) {
         0 => 1000000,
         1 => 999999,
-        2 => draws::short(draws::below(seed, 11, 1000000)),
+        2 => amounts::short(draws::below(seed, 11, 1000000)),
         _ => reached,
     }
 }
 
 pub fn drawn(seed: u64) -> Move {
-    let v = draws::short(draws::amount(seed, 20));
+    let v = amounts::short(amounts::amount(seed, 20));
     let kind = if draws::below(seed, 22, 2) == 0 { 1 } else { 6 };
     match draws::below(seed, 23, 8) {
         0 => {

@@ -1,5 +1,4 @@
 // The bytes of an event record, and damage to them: kind 0 leaves them, 1 to 8 put them out of form.
-use crate::draws;
 
 // Of the 21 bytes the first `length` are lent.
 pub struct Lent {

@@ -1,6 +1,6 @@
 // The states that are lent, from what they hold at position 1; and damage to one that holds two disjuncts.
 // Damage of kind 0 leaves it, 1 to 10 take it out of what document 01 calls sound.
-use crate::draws;
+use crate::amounts;
 use disjunct::Disjunct;
 use slot::Slot;
 use state::State;
@@ -38,7 +38,7 @@ pub fn free() -> Disjunct {
 
 // All that a place can have, filled with x.
 fn filled(x: u64) -> Disjunct {
-    let short = draws::short(x);
+    let short = amounts::short(x);
     let f = slot(x % 2 == 1, short, x as usize, [short; 6]);
     Disjunct { vars: [f; 4] }
 }
@@ -83,7 +83,7 @@ pub fn spare(h: Held, x: u64) -> State {
         first: d,
         second: e,
     };
-    placed(dirty, draws::short(x), f)
+    placed(dirty, amounts::short(x), f)
 }
 
 // The variables beyond the two, the exclusions beyond their count and the value of a free variable filled with x.
@@ -92,8 +92,8 @@ fn unread(d: Disjunct, x: u64) -> Disjunct {
     let a = d.vars[0];
     let b = d.vars[1];
     let c = f.vars[2];
-    let v = uncounted(a, draws::short(x));
-    let w = uncounted(b, draws::short(x));
+    let v = uncounted(a, amounts::short(x));
+    let w = uncounted(b, amounts::short(x));
     Disjunct { vars: [v, w, c, c] }
 }
 
@@ -137,16 +137,16 @@ pub fn damaged(s: State, kind: u32, x: u64, y: u64) -> State {
     match kind {
         0 => {}
         1 => {
-            r.number = draws::above_short(1000001, x);
+            r.number = amounts::above_short(1000001, x);
         }
         2 => {
-            r.count = draws::above(129, x);
+            r.count = amounts::above(129, x);
         }
         3 => {
             r.positions[i] = 0;
         }
         4 => {
-            r.positions[i] = draws::above_short(3, x);
+            r.positions[i] = amounts::above_short(3, x);
         }
         5 => {
             r.pool[0] = e;
@@ -166,7 +166,7 @@ pub fn damaged(s: State, kind: u32, x: u64, y: u64) -> State {
 // The same disjunct in all that is judged.
 fn twin(d: Disjunct, x: u64) -> Disjunct {
     let mut r = d;
-    r.vars[3] = slot(true, draws::short(x), x as usize, [0u32; 6]);
+    r.vars[3] = slot(true, amounts::short(x), x as usize, [0u32; 6]);
     r
 }
 
@@ -177,7 +177,7 @@ fn misheld(d: Disjunct, kind: u32, x: u64) -> Disjunct {
     let mut r = d;
     match kind {
         7 => {
-            r.vars[1] = slot(false, 0, draws::above(7, x), [1u32, 2, 3, 4, 5, 6]);
+            r.vars[1] = slot(false, 0, amounts::above(7, x), [1u32, 2, 3, 4, 5, 6]);
         }
         8 => {
             r.vars[1] = slot(false, 0, 2, [9u32, 7, 0, 0, 0, 0]);
@@ -186,7 +186,7 @@ fn misheld(d: Disjunct, kind: u32, x: u64) -> Disjunct {
             r.vars[1] = slot(false, 0, 2, [7u32, 7, 0, 0, 0, 0]);
         }
         _ => {
-            r.vars[0] = slot(true, a.value, draws::above(1, x), excluded);
+            r.vars[0] = slot(true, a.value, amounts::above(1, x), excluded);
         }
     }
     r

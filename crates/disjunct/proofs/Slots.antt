@@ -2,15 +2,16 @@
 -- list filled from the front, and a lexicographic comparison by its first elements.
 use mathlib.Core.Path.{_≡_, refl, sym, ap, ap₂, _∙_}
 use mathlib.Core.Bool.{Bool, true, false, cond, not}
-use mathlib.Core.List.{List, [], _∷_, _++_, map, append-nil, append-assoc}
-use Prim.Native.Nat.{ℕ, zero, suc, _+_, _-_, _≤_, _<_, compare, Ordering, Ordering·lt, Ordering·eq, Ordering·gt}
+use mathlib.Core.List.{List, [], _∷_, map}
+use Prim.Native.Nat.{ℕ, zero, suc, _+_, _≤_, _<_, compare, Ordering, Ordering·lt, Ordering·eq, Ordering·gt}
 use native.Mathlib.Numerals.{add-one}
 use native.Mathlib.Omega.{arith}
-use lib.ListN.{length, take, drop, getD, set, replicate, length-append, length-map, drop-of-length-le, List·getD-map}
-use lib.Seq.{length-take-le, take-suc, drop-cons, set-at, set-getD}
+use lib.ListN.{length, take, drop, getD, set, length-map, drop-of-length-le, List·getD-map}
+use lib.Seq.{length-take-le, drop-cons, set-getD}
 use Rattle.laws.specs.Order.{andThen, lex}
 use Rattle.laws.specs.Parts.{pad}
-use Rattle.laws.proofs.Parts.{pad-beyond}
+use Rattle.laws.proofs.Maps.{take-map}
+use Rattle.laws.proofs.Parts.{pad-beyond, pad-next}
 use Rattle.meaning.specs.Labels as Labels
 use Rattle.meaning.specs.Labels.{Entry, bound, free, entryOf, isFree, valueKey, exclusions, compareDisjuncts}
 use Rattle.meaning.specs.Rows.{valueOf}
@@ -60,35 +61,12 @@ unfolding viewSlot
 value-slot s = value-by (s .bound) (s .value) (take (s .count) (s .excluded))
 
 module _ {A : Type 0} where
-  -- a padded list that is full
-  pub pad-full : (n : ℕ) (d : A) (l : List A) → n ≤ length l → pad n d l ≡ l
-  unfolding pad
-  pad-full n d l h = let z : n - length l ≡ 0 = omega arith in ap (λ k. l ++ replicate k d) z ∙ append-nil l
-
-  pad-next : (n : ℕ) (d : A) (l : List A) (x : A) → length l < n → set (pad n d l) (length l) x ≡ pad n d (l ++ x ∷ [])
-  unfolding pad
-  pad-next n d l x h =
-      let e : n - length l ≡ suc (n - length (l ++ x ∷ [])) = omega (arith, length-append l (x ∷ [])) in
-      ap (λ k. set (l ++ replicate k d) (length l) x) e ∙ set-at l d _ x (length l) refl ∙ sym (append-assoc l (x ∷ []) _)
-
-  -- the first i elements, padded, and element i in its place: the first i + 1, padded
-  pub fill-next : (n : ℕ) (d : A) (l : List A) (i : ℕ) (e : A) → i < n → n ≤ length l → set (pad n d (take i l)) i (getD l i e) ≡ pad n d (take (i + 1) l)
-  fill-next n d l i e h g =
-      let k = length-take-le i l (omega arith) in
-      ap (λ j. set (pad n d (take i l)) j (getD l i e)) (sym k) ∙ pad-next n d (take i l) (getD l i e) (omega arith)
-      ∙ ap (pad n d) (sym (take-suc l i e (omega arith)) ∙ ap (λ j. take j l) (sym (add-one i)))
-
-  -- nothing is to be written where element i is the padding
+  -- nothing is to be written where element i of a list is the padding
   pub fill-same : (n : ℕ) (d : A) (l : List A) (i : ℕ) → i < n → n ≤ length l → getD l i d ≡ d → pad n d (take i l) ≡ pad n d (take (i + 1) l)
   fill-same n d l i h g e =
       let k = length-take-le i l (omega arith) in
       let p = pad n d (take i l) in
-      sym (set-getD p i d) ∙ ap (set p i) (pad-beyond n d (take i l) i d (omega arith) h ∙ sym e) ∙ fill-next n d l i d h g
-
-  pub take-map : {B : Type 0} (f : A → B) (i : ℕ) (l : List A) → take i (map f l) ≡ map f (take i l)
-  take-map f zero l = refl
-  take-map f (suc i) [] = refl
-  take-map f (suc i) (x ∷ l) = ap (λ r. f x ∷ r) (take-map f i l)
+      sym (set-getD p i d) ∙ ap (set p i) (pad-beyond n d (take i l) i d (omega arith) h ∙ sym e) ∙ pad-next n d l i d (omega arith) h
 
 -- the first i variables, coded, and variable i in its place
 pub coded-next : (D : Labels.Disjunct) (i : ℕ) → i < 4 → 4 ≤ length D
@@ -99,7 +77,7 @@ coded-next D i h g =
     let n = length-map D slotOf in
     ap (λ l. record { vars = l })
     (ap₂ (λ l x. set (pad 4 z l) i x) (sym (take-map slotOf i D)) (sym (List·getD-map slotOf D i (free [])))
-    ∙ fill-next 4 z (map slotOf D) i z h (omega arith) ∙ ap (pad 4 z) (take-map slotOf (i + 1) D))
+    ∙ pad-next 4 z (map slotOf D) i z (omega arith) h ∙ ap (pad 4 z) (take-map slotOf (i + 1) D))
 
 -- a first comparison that finds a difference decides; one that finds none leaves it to the second
 then-first : (p q : Ordering) → (rank p ≡ 1 → ⊥) → rank (andThen p q) ≡ rank p

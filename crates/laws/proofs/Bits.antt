@@ -7,7 +7,7 @@ use native.Mathlib.Omega.{arith}
 use native.Mathlib.Nat.{pow-suc, mod-lt, zero-add, suc-add, add-zero, mul-one, div-one, le-of-suc-le-suc, not-suc-le-zero}
 use native.Mathlib.Numerals.{add-one, one-add}
 use lib.Arith.{lt-one}
-use lib.Bits.{bitAnd, bitOr, and-step, or-step, or-lt, and-le-l, and-mask, shifted-half, shifted-even}
+use lib.Bits.{bitAnd, bitOr, and-step, or-step, or-zero-l, or-zero-r, or-lt, and-le-l, and-mask, shifted-half, shifted-even}
 use lib.Count.{ones, ones-step, ones-le}
 use lib.Dec.{eqb}
 use lib.ListN.{length}
@@ -179,6 +179,14 @@ below-of-bits (suc k) m h = double-below k (below-of-bits k (m / 2) (λ p e. le-
 pub bit-test : (p m : ℕ) → eqb (bitAnd (m / 2 ^ p) 1) 1 ≡ bit p m
 unfolding bit
 bit-test p m = ap (λ (x : ℕ). eqb x 1) (and-mask (m / 2 ^ p) 1) ∙ bit-down p 0 m ∙ ap (λ (x : ℕ). bit x m) (add-zero p)
+
+pub join-none : (a : ℕ) → join a 0 ≡ a
+unfolding join
+join-none a = or-zero-r a
+
+pub none-join : (a : ℕ) → join 0 a ≡ a
+unfolding join
+none-join a = or-zero-l a
 
 pub join-below : (k a b : ℕ) → a < 2 ^ k → b < 2 ^ k → join a b < 2 ^ k
 unfolding join

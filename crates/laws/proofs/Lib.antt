@@ -6,3 +6,4 @@ pub mod Sets
 pub mod Parts
 pub mod Maps
 pub mod Places
+pub mod Turns

@@ -1,6 +1,6 @@
 -- Laws of tests over lists, of the elements that pass, and of lists of neighbouring numbers.
 use mathlib.Core.Path.{_≡_, refl, sym, ap, ap₂, subst, _∙_}
-use mathlib.Core.Bool.{Bool, true, false, cond, not, _&&_, _||_, true≢false, false≢true, or-assoc, and-assoc, or-true}
+use mathlib.Core.Bool.{Bool, true, false, cond, not, _&&_, _||_, true≢false, false≢true, or-assoc, and-assoc, or-true, and-false}
 use mathlib.Core.List.{List, [], _∷_, _++_, map, reverse, append-nil, map-append, reverse-cons, reverse-append}
 use mathlib.Core.List.{List·Memᴰ, List·Memᴰ·head, List·Memᴰ·tail, List·Memᴰ·not-nil, List·Memᴰ·cases-cons, List·Memᴰ·append-cases}
 use mathlib.Core.List.{Memᴰ·append-left, Memᴰ·append-right}
@@ -8,9 +8,12 @@ use mathlib.Core.Logic.{_↔_, _⊎_, inl, inr, ⊎-elim, dite}
 use Prim.Native.Nat.{ℕ, zero, suc, _+_, _*_, _-_, _≤_, _<_, suc-le-suc}
 use native.Mathlib.Nat.{not-suc-le-zero, le-of-suc-le-suc}
 use native.Mathlib.Decide.{ℕ-discrete}
+use native.Mathlib.Numerals.{add-one}
 use native.Mathlib.Omega.{arith}
-use lib.ListN.{length, take, drop, getD, length-append, length-reverse, length-drop, take-append-drop}
-use lib.Seq.{take-at}
+use lib.ListN.{length, take, drop, getD, length-append, length-reverse, length-take, length-drop, take-append-drop, drop-of-length-le}
+use lib.Dec.{eqb}
+use lib.Seq.{take-at, drop-cons, getD-take, length-take-le}
+use borrow.Author.Tests.{eqb-true, eq-eqb}
 use Rattle.laws.specs.Lists.{any, all, keep, gather, numbers}
 
 -- two tests are equal where each passes if the other does
@@ -37,9 +40,21 @@ or-swap true b c d = refl
 or-swap false true c d = sym (or-true c)
 or-swap false false c d = refl
 
+pub and-swap : (a b c d : Bool) → (a && b && (c && d)) ≡ (a && c && (b && d))
+and-swap true true c d = refl
+and-swap true false c d = sym (and-false c)
+and-swap false b c d = refl
+
+pub and-front : (a b c : Bool) → (a && (b && c)) ≡ (b && (a && c))
+and-front true b c = refl
+and-front false b c = sym (and-false b)
+
 not-or : (a b : Bool) → not (a || b) ≡ (not a && not b)
 not-or true b = refl
 not-or false b = refl
+
+pub eqb-swap : (a b : ℕ) → eqb a b ≡ eqb b a
+eqb-swap a b = same-test (eqb a b) (eqb b a) (λ h. eq-eqb b a (sym (eqb-true a b h))) (λ h. eq-eqb a b (sym (eqb-true b a h)))
 
 module _ {A : Type 0} where
   pub any-append : (f : A → Bool) (l m : List A) → any f (l ++ m) ≡ (any f l || any f m)
@@ -131,6 +146,20 @@ module _ {A : Type 0} where
   all-at f {l = y ∷ l} h (List·Memᴰ·head e) = ap f e ∙ and-true-split (f y) (all f l) h .0
   all-at f {l = y ∷ l} h (List·Memᴰ·tail m) = all-at f (and-true-split (f y) (all f l) h .1) m
 
+  -- the element at an index, where the default passes too; the first elements; one element more
+  pub all-getD : (f : A → Bool) (l : List A) (i : ℕ) (d : A) → f d ≡ true → all f l ≡ true → f (getD l i d) ≡ true
+  all-getD f [] i d h k = h
+  all-getD f (x ∷ l) zero d h k = and-true-split (f x) (all f l) k .0
+  all-getD f (x ∷ l) (suc i) d h k = all-getD f l i d h (and-true-split (f x) (all f l) k .1)
+
+  pub all-take : (f : A → Bool) (n : ℕ) (l : List A) → all f l ≡ true → all f (take n l) ≡ true
+  all-take f n l h =
+      let e = sym (all-append f (take n l) (drop n l)) ∙ ap (all f) (take-append-drop n l) ∙ h in
+      and-true-split (all f (take n l)) (all f (drop n l)) e .0
+
+  pub all-more : (f : A → Bool) (l : List A) (x : A) → all f l ≡ true → f x ≡ true → all f (l ++ x ∷ []) ≡ true
+  all-more f l x h k = rw (all-append, h, k)
+
   pub all-of : (f : A → Bool) (l : List A) → ((x : A) → List·Memᴰ x l → f x ≡ true) → all f l ≡ true
   all-of f [] h = refl
   all-of f (x ∷ l) h = ap₂ _&&_ (h x (List·Memᴰ·head refl)) (all-of f l (λ y m. h y (List·Memᴰ·tail m)))
@@ -183,6 +212,9 @@ module _ {A : Type 0} where
   mem-getD (x ∷ l) zero d h = List·Memᴰ·head refl
   mem-getD (x ∷ l) (suc i) d h = List·Memᴰ·tail (mem-getD l i d (le-of-suc-le-suc h))
 
+  pub mem-take : (n : ℕ) {x : A} {l : List A} → List·Memᴰ x (take n l) → List·Memᴰ x l
+  mem-take n {x} {l} m = subst (List·Memᴰ x) (take-append-drop n l) (Memᴰ·append-left (drop n l) m)
+
   -- where an element stands
   pub mem-index : (d : A) {x : A} {l : List A} → List·Memᴰ x l → (i : ℕ) × (i < length l) × (getD l i d ≡ x)
   mem-index d (List·Memᴰ·head e) = (0, omega arith, sym e)
@@ -219,6 +251,13 @@ module _ {A : Type 0} where
   length-gather g n [] h = omega arith
   length-gather g n (x ∷ l) h =
       omega (arith, length-append (g x) (gather g l), h x (List·Memᴰ·head refl), length-gather g n l (λ y m. h y (List·Memᴰ·tail m)))
+
+  -- the first n elements from number i on, by the first of them
+  pub taken-cons : (l : List A) (n i : ℕ) (d : A) → i < n → n ≤ length l → drop i (take n l) ≡ getD l i d ∷ drop (i + 1) (take n l)
+  taken-cons l n i d h k = rw (add-one, drop-cons (take n l) i d (omega (arith, length-take-le n l k)), getD-take n l i d h)
+
+  pub taken-none : (l : List A) (n i : ℕ) → n ≤ i → drop i (take n l) ≡ []
+  taken-none l n i h = drop-of-length-le (take n l) {i = i} (omega (arith, length-take n l))
 
   -- a list from its other end
   pub take-reverse : (k : ℕ) (l : List A) → k ≤ length l → take k (reverse l) ≡ reverse (drop (length l - k) l)

@@ -6,7 +6,7 @@ use mathlib.Core.List.{List, [], _∷_, _++_, map, map-append, List·Memᴰ, Lis
 use mathlib.Core.Logic.{⊎-elim}
 use Prim.Native.Nat.{ℕ, zero, suc, Ordering, Ordering·lt, Ordering·eq, Ordering·gt}
 use native.Mathlib.Omega.{arith}
-use lib.ListN.{length, replicate}
+use lib.ListN.{length, take, replicate}
 use Rattle.laws.specs.Lists.{all, keep, gather}
 use Rattle.laws.specs.Order.{IsOrder, isLess, andThen, lex, rising, ascending}
 use Rattle.laws.specs.Sets.{put, insert, insertAll, setOf}
@@ -34,6 +34,11 @@ module _ {A B : Type 0} where
   pub map-replicate : (f : A → B) (n : ℕ) (x : A) → map f (replicate n x) ≡ replicate n (f x)
   map-replicate f zero x = refl
   map-replicate f (suc n) x = ap (f x ∷_) (map-replicate f n x)
+
+  pub take-map : (f : A → B) (n : ℕ) (l : List A) → take n (map f l) ≡ map f (take n l)
+  take-map f zero l = refl
+  take-map f (suc n) [] = refl
+  take-map f (suc n) (x ∷ l) = ap (f x ∷_) (take-map f n l)
 
   pub gather-map : {C : Type 0} (g : B → List C) (f : A → B) (l : List A) → gather g (map f l) ≡ gather (λ x. g (f x)) l
   gather-map g f [] = refl

@@ -31,6 +31,9 @@ lt-compare m n h = go (compare m n) refl
     go Ordering·eq e = absurd (omega (arith, compare-equal m n e))
     go Ordering·gt e = absurd (omega (arith, compare-lt n m (rw (compare-turned m n, e))))
 
+pub gt-compare : (m n : ℕ) → n < m → compare m n ≡ Ordering·gt
+gt-compare m n h = rw (compare-turned n m, lt-compare n m h)
+
 pub compare-order : IsOrder compare
 compare-order = record {
   self = compare-self;

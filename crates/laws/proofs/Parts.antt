@@ -1,12 +1,15 @@
 -- Laws of splices and of padding.
-use mathlib.Core.Path.{_≡_, sym, ap₂, _∙_}
-use mathlib.Core.List.{List, [], _++_, append-assoc}
-use Prim.Native.Nat.{ℕ, _+_, _-_, _≤_, _<_}
+use mathlib.Core.Path.{_≡_, refl, sym, ap, ap₂, _∙_}
+use mathlib.Core.List.{List, [], _∷_, _++_, map, map-append, append-assoc, append-nil}
+use Prim.Native.Nat.{ℕ, suc, _+_, _-_, _≤_, _<_}
 use native.Mathlib.Omega.{arith}
 use native.Mathlib.Nat.{add-assoc}
-use lib.ListN.{length, take, getD, length-append, length-take, length-drop, length-replicate, take-append-drop, getD-replicate, List·getD-append}
-use lib.Seq.{length-take-le, take-at, drop-at, take-append-seam, getD-append-add, getD-take, getD-drop, drop-drop}
+use native.Mathlib.Numerals.{add-one}
+use lib.ListN.{length, take, getD, set, replicate, length-map, length-append, length-take, length-drop, length-replicate, take-append-drop}
+use lib.ListN.{getD-replicate, List·getD-append}
+use lib.Seq.{length-take-le, take-suc, set-at, take-at, drop-at, take-append-seam, getD-append-add, getD-take, getD-drop, drop-drop}
 use Rattle.laws.specs.Parts.{front, splice, pad}
+use Rattle.laws.proofs.Maps.{map-replicate}
 
 module _ {A : Type 0} where
   -- the element i of two lists is the element j of the second
@@ -65,3 +68,29 @@ module _ {A : Type 0} where
   -- lists of one length with equal paddings are equal
   pub pad-equal : (n : ℕ) (d : A) (a b : List A) → length a ≡ length b → pad n d a ≡ pad n d b → a ≡ b
   pad-equal n d a b h e = sym (pad-take n d a) ∙ ap₂ take h e ∙ pad-take n d b
+
+  -- a list that is long enough is padded with nothing
+  pub pad-full : (n : ℕ) (d : A) (l : List A) → n ≤ length l → pad n d l ≡ l
+  unfolding pad
+  pad-full n d l h = let z : n - length l ≡ 0 = omega arith in rw z (append-nil l)
+
+  -- an element put behind those that are there takes the place of a filler
+  pub pad-more : (n : ℕ) (d : A) (l : List A) (x : A) → length l < n → set (pad n d l) (length l) x ≡ pad n d (l ++ x ∷ [])
+  unfolding pad
+  pad-more n d l x h =
+      let e : n - length l ≡ suc (n - length (l ++ x ∷ [])) = omega (arith, length-append l (x ∷ [])) in
+      ap (λ k. set (l ++ replicate k d) (length l) x) e ∙ set-at l d _ x (length l) refl ∙ sym (append-assoc l (x ∷ []) _)
+
+  -- the first i elements, padded, and element i in its place: the first i + 1, padded
+  pub pad-next : (n : ℕ) (d : A) (l : List A) (i : ℕ) (e : A) → i < length l → i < n
+      → set (pad n d (take i l)) i (getD l i e) ≡ pad n d (take (i + 1) l)
+  pad-next n d l i e h g =
+      let k = length-take-le i l (omega arith) in
+      ap (λ j. set (pad n d (take i l)) j (getD l i e)) (sym k) ∙ pad-more n d (take i l) (getD l i e) (omega arith)
+      ∙ ap (pad n d) (sym (take-suc l i e h) ∙ ap (λ j. take j l) (sym (add-one i)))
+
+pub map-pad : {A B : Type 0} (f : A → B) (n : ℕ) (d : A) (l : List A) → map f (pad n d l) ≡ pad n (f d) (map f l)
+unfolding pad
+map-pad f n d l =
+    map-append f l (replicate (n - length l) d)
+    ∙ ap (map f l ++_) (map-replicate f (n - length l) d ∙ ap (λ k. replicate (n - k) (f d)) (sym (length-map l f)))

@@ -1,20 +1,19 @@
--- Laws of sets that code keeps in arrays: lists by their elements, neighbouring elements written over, one list written behind
--- another, the place of an element looked for from the end, the elements from a place on moved up by one, and insertions under a cap.
+-- Laws of lists that code keeps in arrays: lists by their elements, neighbouring elements written over, one list written behind
+-- another, and the place of an element of a set looked for from the end. The turns of loops that go by them are in Turns.
 use mathlib.Core.Path.{_≡_, refl, sym, ap, ap₂, _∙_}
-use mathlib.Core.Bool.{Bool, true, false, cond}
+use mathlib.Core.Bool.{true}
 use mathlib.Core.List.{List, [], _∷_, _++_, map, append-assoc, append-nil, List·Memᴰ, List·Memᴰ·head, List·Memᴰ·tail, Memᴰ·append-right}
 use mathlib.Core.Logic.{_⊎_, inl, inr, ⊎-elim}
 use Prim.Native.Nat.{ℕ, zero, suc, _+_, _≤_, _<_, Ordering, Ordering·lt, Ordering·eq, Ordering·gt}
 use native.Mathlib.Nat.{zero-add}
 use native.Mathlib.Omega.{arith}
-use lib.ListN.{length, take, drop, getD, set, length-map, length-set, length-take, take-append-drop, drop-of-length-le}
-use lib.Seq.{sets, ext-getD, take-suc, drop-cons, split-at, drop-length, take-length, append-snoc, take-take}
-use lib.Seq.{getD-set-same, getD-set-other, getD-take, take-set-le, drop-set-lt, take-set-lt, take-suc-set, set-split}
-use lib.Dec.{leb}
-use borrow.Author.Tests.{leb-false, le-leb, lt-leb}
+use lib.ListN.{length, take, drop, getD, set, length-map, length-set, take-append-drop}
+use lib.Seq.{sets, ext-getD, take-suc, drop-cons, split-at, drop-length, take-length, append-snoc}
+use lib.Seq.{getD-set-same, getD-set-other, take-suc-set}
+use borrow.Author.Tests.{lt-leb}
 use Rattle.laws.specs.Lists.{numbers}
 use Rattle.laws.specs.Order.{IsOrder, isLess, flip, rising, ascending}
-use Rattle.laws.specs.Sets.{put, insert, insertAll, full, grown, within}
+use Rattle.laws.specs.Sets.{put, insert, insertAll, full, within}
 use Rattle.laws.proofs.Lists.{and-true-split, length-numbers, getD-numbers}
 use Rattle.laws.proofs.Sets.{rising-before, length-insertAll}
 
@@ -49,7 +48,8 @@ module _ {A : Type 0} where
       getD-sets-other (set l i v) (suc i) vs j d (⊎-elim (λ a. inl (omega arith)) (λ b. inr (omega arith)) h)
       ∙ getD-set-other l i j v d (λ e. ⊎-elim (λ a. omega arith) (λ b. omega arith) h)
 
-  pub getD-sets-same : (l : List A) (i : ℕ) (vs : List A) (j : ℕ) (d : A) → i + length vs ≤ length l → j < length vs → getD (sets l i vs) (i + j) d ≡ getD vs j d
+  pub getD-sets-same : (l : List A) (i : ℕ) (vs : List A) (j : ℕ) (d : A) → i + length vs ≤ length l → j < length vs
+      → getD (sets l i vs) (i + j) d ≡ getD vs j d
   getD-sets-same l i (v ∷ vs) zero d h k =
       getD-sets-other (set l i v) (suc i) vs (i + 0) d (inl (omega arith)) ∙ ap (λ n. getD (set l i v) n d) (omega arith) ∙ getD-set-same l i v d (omega arith)
   getD-sets-same l i (v ∷ vs) (suc j) d h k =
@@ -94,7 +94,8 @@ module _ {A : Type 0} {cmp : A → A → Ordering} (o : IsOrder cmp) where
   ascending-until y (w ∷ a) b h z m = rising-until w y a b h z m
 
   -- so x, which is not before the element at i, is after all before that one
-  not-before : (x : A) (l : List A) (i : ℕ) (d : A) → ascending cmp l ≡ true → i < length l → (cmp x (getD l i d) ≡ Ordering·gt) ⊎ (cmp x (getD l i d) ≡ Ordering·eq)
+  not-before : (x : A) (l : List A) (i : ℕ) (d : A) → ascending cmp l ≡ true → i < length l
+      → (cmp x (getD l i d) ≡ Ordering·gt) ⊎ (cmp x (getD l i d) ≡ Ordering·eq)
       → (z : A) → List·Memᴰ z (take i l) → cmp x z ≡ Ordering·gt
   not-before x l i d ha h b z m =
       let y = getD l i d in
@@ -131,60 +132,9 @@ module _ {A : Type 0} {cmp : A → A → Ordering} (o : IsOrder cmp) where
   insertAll-over cap xs l h = rw (lt-leb (length (insertAll cmp xs l)) cap (omega (arith, length-insertAll o xs l)))
 
 module _ {A : Type 0} where
-  -- The elements of l from k to n - 1 moved up by one, from the last on: m is what l has become when i is still to be moved up to.
-  -- First nothing is moved, then one more.
-  pub gap-none : (l m : List A) (n : ℕ) → drop (suc n) (take (suc n) m) ≡ drop n (take n l)
-  gap-none l m n =
-      drop-of-length-le (take (suc n) m) {i = suc n} (omega (arith, length-take (suc n) m)) ∙ sym (drop-of-length-le (take n l) {i = n} (omega (arith, length-take n l)))
-
-  pub gap-more : (l m : List A) (i n : ℕ) (d : A) → i < n → n < length l → length m ≡ length l → take (suc i) m ≡ take (suc i) l
-      → drop (suc (suc i)) (take (suc n) m) ≡ drop (suc i) (take n l)
-      → (take i (set m (suc i) (getD m i d)) ≡ take i l) × (drop (suc i) (take (suc n) (set m (suc i) (getD m i d))) ≡ drop i (take n l))
-  gap-more l m i n d h k e t p =
-      let y = getD m i d in
-      let same : y ≡ getD (take n l) i d =
-      sym (getD-take (suc i) m i d (omega arith)) ∙ ap (λ r. getD r i d) t ∙ getD-take (suc i) l i d (omega arith) ∙ sym (getD-take n l i d h) in
-      let long : suc i < length (take (suc n) m) = omega (arith, length-take (suc n) m) in
-      let long′ : i < length (take n l) = omega (arith, length-take n l) in (
-        take-set-le i m (suc i) y (omega arith) ∙ sym (take-take i (suc i) m (omega arith)) ∙ ap (take i) t ∙ take-take i (suc i) l (omega arith),
-        ap (drop (suc i)) (take-set-lt (suc n) m (suc i) y (omega arith))
-            ∙ drop-cons (set (take (suc n) m) (suc i) y) (suc i) d (rw length-set long)
-            ∙ ap₂ _∷_ (getD-set-same (take (suc n) m) (suc i) y d long ∙ same) (drop-set-lt (suc (suc i)) (take (suc n) m) (suc i) y (omega arith) ∙ p)
-            ∙ sym (drop-cons (take n l) i d long′),
-      )
-
-  -- x put into the gap at k
-  pub gap-filled : (l m : List A) (k n : ℕ) (x : A) → k ≤ n → n < length m → take k m ≡ take k l
-      → drop (suc k) (take (suc n) m) ≡ drop k (take n l) → take (suc n) (set m k x) ≡ take k (take n l) ++ x ∷ drop k (take n l)
-  gap-filled l m k n x h j t p =
-      take-set-lt (suc n) m k x (omega arith) ∙ set-split (take (suc n) m) k x (omega (arith, length-take (suc n) m))
-      ∙ ap₂ (λ a b. a ++ x ∷ b) (take-take k (suc n) m (omega arith) ∙ t ∙ sym (take-take k n l h)) p
-
   -- one more element of f written behind the first of l
   pub behind-more : (l m f : List A) (at i : ℕ) (d : A) → at + i < length m → i < length f → take (at + i) m ≡ take at l ++ take i f
       → take (suc (at + i)) (set m (at + i) (getD f i d)) ≡ take at l ++ take (suc i) f
   behind-more l m f at i d h k e =
       take-suc-set m (at + i) (getD f i d) h ∙ ap (λ r. r ++ getD f i d ∷ []) e ∙ append-assoc (take at l) (take i f) (getD f i d ∷ [])
       ∙ ap (λ r. take at l ++ r) (sym (take-suc f i d k))
-
-module _ {A : Type 0} (cap : ℕ) (l : List A) where
-  pub within-few : length l ≤ cap → within cap l ≡ grown l
-  within-few h = rw (le-leb (length l) cap h)
-
-  pub within-over : cap < length l → within cap l ≡ full
-  within-over h = rw (lt-leb (length l) cap h)
-
-  -- and the other way round
-  pub few-within : (m : List A) → within cap l ≡ grown m → l ≡ m
-  few-within m e = go (leb (length l) cap) e
-    where
-      go : (b : Bool) → cond b (grown l) full ≡ grown m → l ≡ m
-      go true q = cc
-      go false q = cc
-
-  pub over-within : within cap l ≡ full → cap < length l
-  over-within e = go (leb (length l) cap) refl e
-    where
-      go : (b : Bool) → leb (length l) cap ≡ b → cond b (grown l) full ≡ full → cap < length l
-      go true p q = absurd (let z : _≡_ {A = ℕ} 0 1 = cc in omega arith)
-      go false p q = leb-false (length l) cap p

@@ -1,6 +1,6 @@
 -- Laws of ordered distinct sets made by insertion, over any order; and the capped set against the unbounded one.
 use mathlib.Core.Path.{_≡_, refl, sym, ap, ap₂, _∙_}
-use mathlib.Core.Bool.{Bool, true, false, cond, _&&_, _||_, or-true, and-false, or-assoc, and-assoc, or-self-left, and-self-left}
+use mathlib.Core.Bool.{Bool, true, false, cond, _&&_, _||_, or-true, or-assoc, and-assoc, or-self-left, and-self-left}
 use mathlib.Core.List.{List, [], _∷_, _++_, map, List·Memᴰ, List·Memᴰ·head, List·Memᴰ·tail, Memᴰ·cast}
 use mathlib.Core.List.{List·Memᴰ·not-nil, List·Memᴰ·cases-cons, List·Memᴰ·append-cases}
 use mathlib.Core.Logic.{_↔_, _⊎_, inl, inr, ⊎-elim}
@@ -12,15 +12,11 @@ use borrow.Author.Tests.{leb-true, leb-false, le-leb, lt-leb}
 use Rattle.laws.specs.Lists.{any, all, keep}
 use Rattle.laws.specs.Order.{IsOrder, isLess, isSame, rising, ascending}
 use Rattle.laws.specs.Sets.{put, insert, insertAll, setOf, member, full, grown, within, growAll}
-use Rattle.laws.proofs.Lists.{and-true-split, any-found, any-of, mem-keep}
+use Rattle.laws.proofs.Lists.{and-true-split, and-front, any-found, any-of, mem-keep}
 
 or-left-comm : (a b c : Bool) → (a || (b || c)) ≡ (b || (a || c))
 or-left-comm true b c = sym (or-true b)
 or-left-comm false b c = refl
-
-and-left-comm : (a b c : Bool) → (a && (b && c)) ≡ (b && (a && c))
-and-left-comm true b c = refl
-and-left-comm false b c = sym (and-false b)
 
 less-lt : (c : Ordering) → isLess c ≡ true → c ≡ Ordering·lt
 less-lt Ordering·lt h = refl
@@ -64,7 +60,7 @@ module _ {A : Type 0} {cmp : A → A → Ordering} (o : IsOrder cmp) where
           → all f (put c x y l (insert cmp x l)) ≡ (f x && (f y && all f l))
       go Ordering·lt e ih = refl
       go Ordering·eq e ih = rw (o .equal x y e) (sym (and-self-left (f y) (all f l)))
-      go Ordering·gt e ih = ap (λ b. f y && b) ih ∙ and-left-comm (f y) (f x) (all f l)
+      go Ordering·gt e ih = ap (λ b. f y && b) ih ∙ and-front (f y) (f x) (all f l)
 
   pub any-insertAll : (f : A → Bool) (xs l : List A) → any f (insertAll cmp xs l) ≡ (any f xs || any f l)
   any-insertAll f [] l = refl
@@ -75,7 +71,7 @@ module _ {A : Type 0} {cmp : A → A → Ordering} (o : IsOrder cmp) where
   pub all-insertAll : (f : A → Bool) (xs l : List A) → all f (insertAll cmp xs l) ≡ (all f xs && all f l)
   all-insertAll f [] l = refl
   all-insertAll f (x ∷ xs) l =
-      all-insertAll f xs (insert cmp x l) ∙ ap (λ b. all f xs && b) (all-insert f x l) ∙ and-left-comm (all f xs) (f x) (all f l)
+      all-insertAll f xs (insert cmp x l) ∙ ap (λ b. all f xs && b) (all-insert f x l) ∙ and-front (all f xs) (f x) (all f l)
       ∙ sym (and-assoc (f x) (all f xs) (all f l))
 
   pub mem-insert : (a x : A) (l : List A) → List·Memᴰ a (insert cmp x l) ↔ ((a ≡ x) ⊎ List·Memᴰ a l)

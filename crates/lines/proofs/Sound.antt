@@ -8,7 +8,7 @@ use borrow.Author.Tests.{eqb-true}
 use lib.Dec.{eqb, ltb}
 use lib.ListN.{length, set, length-append}
 use Rattle.laws.specs.Lists.{all}
-use Rattle.laws.proofs.Lists.{all-append}
+use Rattle.laws.proofs.Lists.{all-more}
 use Rattle.meaning.specs.Events.{Place, ignored, names}
 use Rattle.meaning.specs.Book.{soundPlace}
 use Rattle.form.specs.Text.{Bytes, Span, ignoredWord}
@@ -25,9 +25,6 @@ use Rattle.lines.specs.Results.{symbolRead}
 use Rattle.lines.proofs.Args.{next-inside, want-inside, variables-length}
 use Rattle.lines.proofs.Known.{span-inside}
 use Rattle.lines.proofs.Gaps.{word-within, next-more}
-
-all-more : {A : Type 0} (f : A → Bool) (l : List A) (x : A) → all f l ≡ true → f x ≡ true → all f (l ++ (x ∷ [])) ≡ true
-all-more f l x h k = rw (all-append, h, k)
 
 -- a word that is read as an argument is ignored or a declared variable
 argument-sound : (s : Bytes) (xs : List Span) (p e : ℕ) → eqb (argumentFault s xs p e) 0 ≡ true → soundPlace (length xs) (argumentOf s xs p e) ≡ true

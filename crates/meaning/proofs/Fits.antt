@@ -10,7 +10,7 @@ use lib.ListN.{length, getD, set, length-set}
 use lib.Seq.{set-getD}
 use borrow.Author.Tests.{eqb-true, eq-eqb, ltb-true}
 use Rattle.laws.specs.Lists.{any, all, keep}
-use Rattle.laws.proofs.Lists.{same-test, and-true-split, any-map, all-map, any-keep, any-and, any-agree, all-at, all-of}
+use Rattle.laws.proofs.Lists.{and-true-split, and-swap, and-front, eqb-swap, any-map, all-map, any-keep, any-and, any-agree, all-at, all-of}
 use Rattle.laws.proofs.Order.{compare-order}
 use Rattle.laws.proofs.Sets.{any-insert}
 use Rattle.meaning.specs.Events.{Place, ignored, names, Symbol, Event, Demand, Constraint, never, demands, demandsOf, matches, consistent}
@@ -76,9 +76,6 @@ pub free-fits : (σ : Valuation) → fits σ (freeDisjunct (length σ)) ≡ true
 free-fits [] = refl
 free-fits (a ∷ σ) = free-fits σ
 
-eqb-swap : (a b : ℕ) → eqb a b ≡ eqb b a
-eqb-swap a b = same-test (eqb a b) (eqb b a) (λ h. eq-eqb b a (sym (eqb-true a b h))) (λ h. eq-eqb a b (sym (eqb-true b a h)))
-
 -- one entry written over: the valuation's value there, and the rest
 fits-set : (σ : Valuation) (D : Disjunct) (v : ℕ) (y : Entry) → v < length σ
     → fits σ (set D v y) ≡ (admits y (getD σ v 0) && fits σ (set D v (free [])))
@@ -86,11 +83,8 @@ fits-set [] D v y h = absurd (not-suc-le-zero h)
 fits-set (a ∷ σ) [] v y h = sym (and-false (admits y (getD (a ∷ σ) v 0)))
 fits-set (a ∷ σ) (x ∷ D) zero y h = refl
 fits-set (a ∷ σ) (x ∷ D) (suc v) y h =
-    ap (λ b. admits x a && b) (fits-set σ D v y (le-of-suc-le-suc h)) ∙ left-comm (admits x a) (admits y (getD σ v 0)) (fits σ (set D v (free [])))
-  where
-    left-comm : (a b c : Bool) → (a && (b && c)) ≡ (b && (a && c))
-    left-comm true b c = refl
-    left-comm false b c = sym (and-false b)
+    ap (λ b. admits x a && b) (fits-set σ D v y (le-of-suc-le-suc h))
+    ∙ and-front (admits x a) (admits y (getD σ v 0)) (fits σ (set D v (free [])))
 
 -- and one entry read
 fits-at : (σ : Valuation) (D : Disjunct) (v : ℕ) → v < length σ
@@ -104,11 +98,6 @@ admits-swap y x s = rw (eqb-swap s x) (go (eqb x s) refl)
     go : (b : Bool) → eqb x s ≡ b → (admits y x && b) ≡ (admits y s && b)
     go true e = rw (eqb-true x s e)
     go false e = and-false (admits y x) ∙ sym (and-false (admits y s))
-
-and-middle : (a b c d : Bool) → (a && b && (c && d)) ≡ (a && c && (b && d))
-and-middle true true c d = refl
-and-middle true false c d = sym (and-false c)
-and-middle false b c d = refl
 
 metAll-fits : (σ : Valuation) (D : Disjunct) (ds : List Demand) → all (λ d. ltb (d .variable) (length σ)) ds ≡ true
     → (meetsAll D ds && fits σ (metAll D ds)) ≡ (fits σ D && all (agrees σ) ds)
@@ -124,7 +113,7 @@ metAll-fits σ D (d ∷ ds) k =
     and-assoc (admits y x) (meetsAll (bind D d) ds) (fits σ (metAll (bind D d) ds))
     ∙ ap (λ b. admits y x && b) (metAll-fits σ (bind D d) ds (ks .1) ∙ ap (λ b. b && t) (fits-set σ D (d .variable) (bound x) v) ∙ and-assoc (eqb x s) r t)
     ∙ sym (and-assoc (admits y x) (eqb x s) (r && t)) ∙ ap (λ b. b && (r && t)) (admits-swap y x s)
-    ∙ and-middle (admits y s) (eqb s x) r t ∙ ap (λ b. b && (eqb s x && t)) (sym (fits-at σ D (d .variable) v))
+    ∙ and-swap (admits y s) (eqb s x) r t ∙ ap (λ b. b && (eqb s x && t)) (sym (fits-at σ D (d .variable) v))
 
 -- a valuation fits the met disjunct just where it fits the disjunct and satisfies the constraint
 pub met-fits : (σ : Valuation) (D : Disjunct) (c : Constraint) → length D ≡ length σ → inRange (length σ) c ≡ true

@@ -1,17 +1,18 @@
 -- Soundness is kept by every accepted event, so a proper tracematch with a reached state never gets answer 9.
 use mathlib.Core.Path.{_≡_, refl, sym, ap, ap₂, _∙_}
-use mathlib.Core.Bool.{Bool, true, false, cond, not, _&&_, and-assoc, and-false}
+use mathlib.Core.Bool.{Bool, true, false, cond, not, _&&_, and-assoc}
 use mathlib.Core.List.{List, [], _∷_, map, List·Memᴰ}
 use mathlib.Core.Logic.{⊎-elim}
 use Prim.Native.Nat.{ℕ, zero, suc, _+_, _^_, _≤_, _<_, compare}
 use native.Mathlib.Omega.{arith}
 use lib.Dec.{eqb, leb}
-use lib.ListN.{length, getD, set, length-map, replicate, length-replicate}
+use lib.ListN.{length, set, length-map, length-replicate}
 use borrow.Author.Tests.{lt-ltb, le-leb, eq-eqb, eqb-true}
 use Rattle.laws.specs.Bits.{bit}
 use Rattle.laws.specs.Lists.{all, gather, numbers}
 use Rattle.laws.specs.Order.{andThen, ascending}
-use Rattle.laws.proofs.Lists.{and-true-split, all-at, all-of, all-map, mem-map, mem-gather, mem-numbers, length-numbers}
+use Rattle.laws.proofs.Lists.{and-true-split, and-swap, all-at, all-getD, all-of, all-map, mem-map, mem-gather, mem-numbers, length-numbers}
+use Rattle.laws.proofs.Maps.{all-replicate}
 use Rattle.laws.proofs.Order.{compare-order, lt-compare}
 use Rattle.laws.proofs.Sets.{all-insert, insert-ascending, append-ascending, map-ascending}
 use Rattle.pattern.specs.Regex.{Regex, In, nullable}
@@ -41,21 +42,12 @@ pub fresh-sound : (b : Book) → soundHeld b [] ≡ true
 unfolding soundHeld
 fresh-sound b = refl
 
--- tests over a list with one element set
+-- a test over a list with one element set
 module _ {A : Type 0} (f : A → Bool) where
   all-set : (l : List A) (i : ℕ) (x : A) → f x ≡ true → all f l ≡ true → all f (set l i x) ≡ true
   all-set [] i x h k = refl
   all-set (y ∷ l) zero x h k = ap₂ _&&_ h (and-true-split (f y) (all f l) k .1)
   all-set (y ∷ l) (suc i) x h k = let s = and-true-split (f y) (all f l) k in ap₂ _&&_ (s .0) (all-set l i x h (s .1))
-
-  all-getD : (l : List A) (i : ℕ) (d : A) → f d ≡ true → all f l ≡ true → f (getD l i d) ≡ true
-  all-getD [] i d h k = h
-  all-getD (y ∷ l) zero d h k = and-true-split (f y) (all f l) k .0
-  all-getD (y ∷ l) (suc i) d h k = all-getD l i d h (and-true-split (f y) (all f l) k .1)
-
-  all-replicate : (n : ℕ) (x : A) → f x ≡ true → all f (replicate n x) ≡ true
-  all-replicate zero x h = refl
-  all-replicate (suc n) x h = ap₂ _&&_ h (all-replicate n x h)
 
 -- the demands of a well-formed event ask for its arguments
 abbrev asksWord : Demand → Bool
@@ -85,11 +77,6 @@ soundValues (free xs) = all word32 xs && ascending compare xs
 entry-split : (x : Entry) → soundEntry x ≡ (leb (length (exclusions x)) 6 && soundValues x)
 entry-split (bound a) = refl
 entry-split (free xs) = and-assoc (leb (length xs) 6) (all word32 xs) (ascending compare xs)
-
-and-swap : (a b c d : Bool) → (a && b && (c && d)) ≡ (a && c && (b && d))
-and-swap true true c d = refl
-and-swap true false c d = sym (and-false c)
-and-swap false b c d = refl
 
 entries-split : (D : Disjunct) → all soundEntry D ≡ (fewExclusions D && all soundValues D)
 entries-split [] = refl

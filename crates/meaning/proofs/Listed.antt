@@ -6,12 +6,12 @@ use mathlib.Core.List.{List, [], _∷_, _++_, reverse, reverseAux, reverse-rever
 use Prim.Native.Nat.{ℕ, zero, suc, _-_, _<_}
 use native.Mathlib.Omega.{arith}
 use lib.Dec.{eqb}
-use lib.ListN.{length, getD, take, length-reverse, length-map, drop, take-append-drop}
+use lib.ListN.{length, getD, take, length-reverse, length-map}
 use borrow.Author.Tests.{eqb-true, eq-eqb}
 use Rattle.laws.specs.Bits.{bit}
 use Rattle.laws.specs.Lists.{any, all}
 use Rattle.laws.proofs.Bits.{bit-zero}
-use Rattle.laws.proofs.Lists.{any-agree, any-false, any-found, any-of, all-at, all-append, same-test, and-true-split}
+use Rattle.laws.proofs.Lists.{any-agree, any-false, any-found, any-of, all-at, all-take, same-test, and-true-split}
 use Rattle.meaning.specs.Events.{Event, Valuation, wellFormed, isValuation, holds, concerns}
 use Rattle.meaning.specs.Meaning.{Tracematch, noEvent, Match, Row}
 use Rattle.meaning.specs.Book.{Book, bookOf, Proper, soundSymbol, positions, beginsAt, endsAt, followers, followsAt, goesOn, symbolOf}
@@ -151,9 +151,6 @@ module _ (b : Book) (formed : all (soundSymbol (b .variables)) (b .symbols) ≡ 
 valuation-length : (n : ℕ) (σ : Valuation) → isValuation n σ ≡ true → length σ ≡ n
 unfolding isValuation
 valuation-length n σ v = eqb-true _ _ (and-true-split (eqb (length σ) n) _ v .0)
-
-all-take : (f : Event → Bool) (n : ℕ) (l : List Event) → all f l ≡ true → all f (take n l) ≡ true
-all-take f n l h = and-true-split _ (all f (drop n l)) (sym (all-append f (take n l) (drop n l)) ∙ ap (all f) (take-append-drop n l) ∙ h) .0
 
 -- the same in the words of the declarative meaning, for the event e after the calls `before`
 module _ (tm : Tracematch) (ok : Proper tm) (before : List Call) (e : Event) (good : all wellFormed (traceOf before ++ (e ∷ [])) ≡ true) (σ : Valuation) where

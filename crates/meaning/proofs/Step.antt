@@ -26,28 +26,37 @@ abbrev pub wide : ℕ → List Held → Bool
 wide n held = all (λ h. eqb (length (h .disjunct)) n) held
 
 -- the same of a list of disjuncts, member by member
-abbrev Long : ℕ → List Disjunct → Type 0
+abbrev pub Long : ℕ → List Disjunct → Type 0
 Long n l = (D : Disjunct) → List·Memᴰ D l → length D ≡ n
 
-skipBy-long : (n : ℕ) (c : Constraint) (l : List Disjunct) → Long n l → Long n (skipBy c l)
+pub skipOne-long : (n : ℕ) (c : Constraint) (D E : Disjunct) → length D ≡ n → List·Memᴰ E (skipOne c D) → length E ≡ n
+skipOne-long n c D E h m = eqb-true (length E) n (all-at (λ F. eqb (length F) n) (skip-length c D n h) m)
+
+pub skipBy-long : (n : ℕ) (c : Constraint) (l : List Disjunct) → Long n l → Long n (skipBy c l)
 skipBy-long n c l h D m =
     let r = skipBy-member c l D .0 m in
-    eqb-true (length D) n (all-at (λ E. eqb (length E) n) (skip-length c (r .0) n (h (r .0) (r .1))) (r .2))
+    skipOne-long n c (r .0) D (h (r .0) (r .1)) (r .2)
 
-skipThrough-long : (n : ℕ) (cs : List Constraint) (l : List Disjunct) → Long n l → Long n (skipThrough cs l)
+pub skipThrough-long : (n : ℕ) (cs : List Constraint) (l : List Disjunct) → Long n l → Long n (skipThrough cs l)
 skipThrough-long n [] l h = h
 skipThrough-long n (c ∷ cs) l h = skipThrough-long n cs (skipBy c l) (skipBy-long n c l h)
 
-symbol-inRange : (n : ℕ) (s : Symbol) (e : Event) → soundSymbol n s ≡ true → inRange n (constraintOf s e) ≡ true
+pub symbol-inRange : (n : ℕ) (s : Symbol) (e : Event) → soundSymbol n s ≡ true → inRange n (constraintOf s e) ≡ true
 unfolding soundSymbol
 symbol-inRange n s e h =
     constraint-inRange n s e (and-true-split (leb 1 (s .kind) && leb (s .kind) 255 && leb (length (s .places)) 4) (all (soundPlace n) (s .places)) h .1)
 
 -- a symbol by its number; out of range it is one that has no places
-numbered-inRange : (n : ℕ) (l : List Symbol) (i : ℕ) (e : Event) → all (soundSymbol n) l ≡ true → inRange n (constraintOf (getD l i noSymbol) e) ≡ true
+pub numbered-inRange : (n : ℕ) (l : List Symbol) (i : ℕ) (e : Event) → all (soundSymbol n) l ≡ true
+    → inRange n (constraintOf (getD l i noSymbol) e) ≡ true
 numbered-inRange n [] i e h = constraint-inRange n noSymbol e refl
 numbered-inRange n (s ∷ l) zero e h = symbol-inRange n s e (and-true-split (soundSymbol n s) (all (soundSymbol n) l) h .0)
 numbered-inRange n (s ∷ l) (suc i) e h = numbered-inRange n l i e (and-true-split (soundSymbol n s) (all (soundSymbol n) l) h .1)
+
+-- all symbols
+pub symbols-inRange : (n : ℕ) (l : List Symbol) (e : Event) → all (soundSymbol n) l ≡ true
+    → all (inRange n) (map (λ s. constraintOf s e) l) ≡ true
+symbols-inRange n l e h = all-map (inRange n) (λ s. constraintOf s e) l ∙ all-of _ l (λ s m. symbol-inRange n s e (all-at _ h m))
 
 any-setOf : (f : Disjunct → Bool) (l : List Disjunct) → any f (setOf compareDisjuncts l) ≡ any f l
 any-setOf f l = any-insertAll disjunct-order f l [] ∙ or-false (any f l)
@@ -79,32 +88,36 @@ module _ (σ : Valuation) where
       past true false c = refl
       past false b c = refl
 
+-- where every held disjunct has an entry for each variable, so have those of labels, sources, step sets and skip sets
+module _ (b : Book) (held : List Held) (each : (h : Held) → List·Memᴰ h held → length (h .disjunct) ≡ b .variables) where
+  pub label-long : (p : ℕ) → Long (b .variables) (labelOf held p)
+  label-long p D m = let r = label-held held p m in ap length (r .3) ∙ each (r .0) (r .1)
+
+  pub sources-long : (q : ℕ) → Long (b .variables) (sources b held q)
+  sources-long q D m =
+      ⊎-elim (λ s. ap length (s .1) ∙ length-replicate (b .variables) (free [])) (λ s. ap length (s .3) ∙ each (s .0) (s .1))
+      (source-cases b held q m)
+
+  pub stepSet-long : (e : Event) (q : ℕ) → Long (b .variables) (stepSet b held e q)
+  stepSet-long e q D m =
+      let r = stepSet-member b held e q D .0 m in
+      ap length (r .3) ∙ met-length (r .0) (constraintOf (symbolOf b q) e) ∙ sources-long q (r .0) (r .1)
+
+  pub skipSet-long : (e : Event) (p : ℕ) → Long (b .variables) (skipSet b held e p)
+  unfolding skipSet
+  skipSet-long e p = skipThrough-long (b .variables) (map (λ s. constraintOf s e) (b .symbols)) (labelOf held p) (label-long p)
+
 module _ (b : Book) (formed : all (soundSymbol (b .variables)) (b .symbols) ≡ true) (held : List Held)
     (full : wide (b .variables) held ≡ true) (e : Event) where
   old-long : (h : Held) → List·Memᴰ h held → length (h .disjunct) ≡ b .variables
   old-long h m = eqb-true _ _ (all-at _ full m)
 
-  label-long : (p : ℕ) → Long (b .variables) (labelOf held p)
-  label-long p D m = let r = label-held held p m in ap length (r .3) ∙ old-long (r .0) (r .1)
-
-  sources-long : (q : ℕ) → Long (b .variables) (sources b held q)
-  sources-long q D m =
-      ⊎-elim (λ s. ap length (s .1) ∙ length-replicate (b .variables) (free [])) (λ s. ap length (s .3) ∙ old-long (s .0) (s .1))
-      (source-cases b held q m)
-
-  stepSet-long : (q : ℕ) → Long (b .variables) (stepSet b held e q)
-  stepSet-long q D m =
-      let r = stepSet-member b held e q D .0 m in
-      ap length (r .3) ∙ met-length (r .0) (constraintOf (symbolOf b q) e) ∙ sources-long q (r .0) (r .1)
-
   newLabel-long : (p : ℕ) → Long (b .variables) (newLabel b held e p)
-  unfolding skipSet
   newLabel-long p D m =
-      let cs : List Constraint = map (λ s. constraintOf s e) (b .symbols) in
-      ⊎-elim (stepSet-long p D) (skipThrough-long (b .variables) cs (labelOf held p) (label-long p) D) (newLabel-member b held e p D .0 m .1)
+      ⊎-elim (stepSet-long b held old-long e p D) (skipSet-long b held old-long e p D) (newLabel-member b held e p D .0 m .1)
 
   pub stepSet-wide : (q : ℕ) → all (λ D. eqb (length D) (b .variables)) (stepSet b held e q) ≡ true
-  stepSet-wide q = all-of _ (stepSet b held e q) (λ D m. eq-eqb (length D) (b .variables) (stepSet-long q D m))
+  stepSet-wide q = all-of _ (stepSet b held e q) (λ D m. eq-eqb (length D) (b .variables) (stepSet-long b held old-long e q D m))
 
   pub newHeld-wide : wide (b .variables) (newHeld b held e) ≡ true
   newHeld-wide = all-of _ (newHeld b held e) λ h m.
@@ -131,7 +144,7 @@ module _ (b : Book) (formed : all (soundSymbol (b .variables)) (b .symbols) ≡ 
         let l : List Disjunct = keep (λ D. meets D c) (sources b held q) in
         any-setOf (fits σ) (map (λ D. met D c) l) ∙ any-map (fits σ) (λ D. met D c) l ∙ any-keep _ (λ D. meets D c) (sources b held q)
         ∙ any-agree _ (λ D. satisfies c σ && fits σ D) (sources b held q)
-        (λ D m. met-fits σ D c (sources-long q D m ∙ sym width) k ∙ and-comm (fits σ D) (satisfies c σ))
+        (λ D m. met-fits σ D c (sources-long b held old-long q D m ∙ sym width) k ∙ and-comm (fits σ D) (satisfies c σ))
         ∙ any-and (satisfies c σ) (fits σ) (sources b held q) ∙ ap (λ r. satisfies c σ && r) (sources-fits q)
 
     pub skipSet-fits : (p : ℕ) → any (fits σ) (skipSet b held e p)
@@ -139,9 +152,7 @@ module _ (b : Book) (formed : all (soundSymbol (b .variables)) (b .symbols) ≡ 
     unfolding skipSet concerns holds
     skipSet-fits p =
         skipThrough-fits σ (map (λ s. constraintOf s e) (b .symbols)) (labelOf held p)
-        (λ D m. label-long p D m ∙ sym width)
-        (rw width (all-map (inRange (b .variables)) (λ s. constraintOf s e) (b .symbols)
-        ∙ all-of _ (b .symbols) (λ s m. symbol-inRange (b .variables) s e (all-at _ formed m))))
+        (λ D m. label-long b held old-long p D m ∙ sym width) (rw width (symbols-inRange (b .variables) (b .symbols) e formed))
         ∙ ap₂ (λ r t. r && not t) (held-fits σ (λ h. eqb (h .position) p) held)
         (any-map (λ c. satisfies c σ) (λ s. constraintOf s e) (b .symbols))
 

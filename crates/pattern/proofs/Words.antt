@@ -1,11 +1,11 @@
 -- What the computed flag and the computed mask say of the words of a pattern.
 use mathlib.Core.Path.{_≡_, refl, sym, _∙_}
-use mathlib.Core.Bool.{Bool, true, false, _&&_, _||_, true≢false, false≢true}
+use mathlib.Core.Bool.{Bool, true, false, _||_, true≢false, false≢true}
 use mathlib.Core.List.{List, [], _∷_, _++_, nil≢cons, append-nil}
-use mathlib.Core.Logic.{_↔_, _⊎_, inl, inr, ⊎-elim, Iff·and, Iff·symm, Iff·trans}
+use mathlib.Core.Logic.{_↔_, inl, inr, ⊎-elim, Iff·and, Iff·symm, Iff·trans}
 use Prim.Native.Nat.{ℕ}
 use Rattle.laws.proofs.Bits.{bit-join, bit-meet}
-use Rattle.laws.proofs.Lists.{any-append}
+use Rattle.laws.proofs.Lists.{and-false-split, any-append}
 use Rattle.laws.specs.Bits.{bit}
 use Rattle.laws.specs.Lists.{any}
 use Rattle.pattern.proofs.Members.{or-iff, and-true-iff, or-true-iff, has-zero}
@@ -26,10 +26,6 @@ empty-word (opt r) = (λ h. refl, λ e. inl refl)
 or-false : (a b : Bool) → (a || b) ≡ false → (a ≡ false) × (b ≡ false)
 or-false true b e = absurd (true≢false e)
 or-false false b e = (refl, e)
-
-and-false : (a b : Bool) → (a && b) ≡ false → (a ≡ false) ⊎ (b ≡ false)
-and-false true b e = inr e
-and-false false b e = inl refl
 
 module _ (vars : ℕ → ℕ) (v : ℕ) where
   abbrev binds : List ℕ → Bool
@@ -55,7 +51,8 @@ module _ (vars : ℕ → ℕ) (v : ℕ) where
       let u = free s (e .1) in
       (t .0 ++ u .0, (t .0, u .0, refl, t .1, u .1), rw (any-append, t .2, u .2))
   free (alt r s) h =
-      ⊎-elim (λ x. let t = free r x in (t .0, inl (t .1), t .2)) (λ y. let t = free s y in (t .0, inr (t .1), t .2)) (and-false _ _ (rw bit-meet at h))
+      ⊎-elim (λ x. let t = free r x in (t .0, inl (t .1), t .2)) (λ y. let t = free s y in (t .0, inr (t .1), t .2))
+      (and-false-split _ _ (rw bit-meet at h))
   free (star r) h = ([], none, refl)
   free (plus r) h = let t = free r h in (t .0, (t .0, [], sym (append-nil (t .0)), t .1, none), t .2)
   free (opt r) h = ([], inl refl, refl)

@@ -5,7 +5,6 @@ use mathlib.Core.List.{List, map}
 use Prim.Native.Nat.{ℕ, _+_, _*_, _-_, _%_, _^_, _≤_, _<_}
 use native.Mathlib.Nat.{add-assoc, add-comm, one-mul}
 use native.Mathlib.Omega.{arith}
-use lib.Bits.{or-zero-l, or-zero-r}
 use lib.Dec.{leb, ltb}
 use lib.ListN.{getD, set, replicate, length-set, length-replicate, getD-replicate}
 use lib.Pow.{shl-exact}
@@ -13,21 +12,13 @@ use lib.Seq.{getD-set-same, getD-set-other}
 use borrow.Author.Tests.{leb-true, leb-false, ltb-true, ltb-false, le-leb, lt-leb, lt-ltb}
 use Rattle.laws.specs.Bits.{bit, join, single}
 use Rattle.laws.specs.Lists.{numbers}
-use Rattle.laws.proofs.Bits.{bits-equal, bit-zero}
+use Rattle.laws.proofs.Bits.{bits-equal, bit-zero, join-none, none-join}
 use Rattle.laws.proofs.Lists.{getD-numbers}
 use Rattle.pattern.specs.Regex.{Regex, lit, cat, alt}
 use Rattle.pattern.specs.Positions.{size, symbolAt, beginning, ending, following, given}
 use Rattle.pattern.proofs.Masks.{Among, ending-among, following-among}
 use Rattle.piece.specs.Pieces.{places, symbolOr0}
 use Rattle.piece.proofs.Fills.{by-elements, by-position}
-
-join-nothing : (a : ℕ) → join a 0 ≡ a
-unfolding join
-join-nothing a = or-zero-r a
-
-nothing-join : (a : ℕ) → join 0 a ≡ a
-unfolding join
-nothing-join a = or-zero-l a
 
 -- a test that would refute something fails
 fails : (b : Bool) → (b ≡ true → ⊥) → b ≡ false
@@ -50,11 +41,11 @@ two-parts k s t p x y = go (leb k p) (ltb p (k + s)) refl refl
   where
     go : (u v : Bool) → leb k p ≡ u → ltb p (k + s) ≡ v
         → join (cond (u && v) x 0) (cond (leb (k + s) p && ltb p (k + s + t)) y 0) ≡ cond (u && ltb p (k + (s + t))) (cond v x y) 0
-    go false v d e = let l = leb-false k p d in rw (lt-leb (k + s) p (omega arith)) (join-nothing 0)
+    go false v d e = let l = leb-false k p d in rw (lt-leb (k + s) p (omega arith)) (join-none 0)
     go true true d e =
         let l = ltb-true p (k + s) e in
-        rw (lt-leb (k + s) p l, lt-ltb p (k + (s + t)) (omega arith)) (join-nothing x)
-    go true false d e = rw (le-leb (k + s) p (ltb-false p (k + s) e), add-assoc) (nothing-join _)
+        rw (lt-leb (k + s) p l, lt-ltb p (k + (s + t)) (omega arith)) (join-none x)
+    go true false d e = rw (le-leb (k + s) p (ltb-false p (k + s) e), add-assoc) (none-join _)
 
 module _ (a b : Regex) (k p : ℕ) where
   -- left of b nothing of b follows p; right of a nothing of a does, and p ends nothing of a
@@ -70,10 +61,10 @@ module _ (a b : Regex) (k p : ℕ) where
 
   pub cat-follows : join (join (following a k p) (following b (k + size a) p)) (given (bit p (ending a k)) (beginning b (k + size a)))
       ≡ following (cat a b) k p
-  cat-follows = by-part _ _ _ (λ d. rw (d, join-nothing)) (λ d e. rw (d, e, join-nothing, nothing-join))
+  cat-follows = by-part _ _ _ (λ d. rw (d, join-none)) (λ d e. rw (d, e, join-none, none-join))
 
   pub alt-follows : join (following a k p) (following b (k + size a) p) ≡ following (alt a b) k p
-  alt-follows = by-part _ _ _ (λ d. rw d (join-nothing _)) (λ d e. rw d (nothing-join _))
+  alt-follows = by-part _ _ _ (λ d. rw d (join-none _)) (λ d e. rw d (none-join _))
 
   pub cat-symbols : join (symbolOr0 a k p) (symbolOr0 b (k + size a) p) ≡ symbolOr0 (cat a b) k p
   unfolding symbolOr0

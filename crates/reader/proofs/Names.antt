@@ -1,15 +1,14 @@
 -- The names of a read book: its array holds their declaring places, which are inside the text.
 use mathlib.Core.Path.{_≡_, refl, ap, _∙_}
 use mathlib.Core.Bool.{Bool, true, false}
-use mathlib.Core.List.{List, [], _∷_, _++_, map}
+use mathlib.Core.List.{_++_, map}
 use mathlib.Core.Logic.{inl}
-use Prim.Native.Nat.{ℕ, zero, suc, _+_, _≤_, _<_}
+use Prim.Native.Nat.{ℕ, _+_, _≤_, _<_}
 use native.Mathlib.Omega.{arith}
 use lib.Dec.{eqb}
 use lib.ListN.{length, getD, length-append, length-map, List·getD-eq-default, List·getD-map}
 use borrow.Author.Tests.{le-leb, leb-true, eqb-true, eqb-false}
-use Rattle.laws.specs.Lists.{all}
-use Rattle.laws.proofs.Lists.{and-true-split}
+use Rattle.laws.proofs.Lists.{all-getD}
 use Rattle.laws.proofs.Parts.{pad-at}
 use Rattle.form.specs.Text.{Bytes, Span}
 use Rattle.form.specs.Lines.{Table}
@@ -22,12 +21,6 @@ use Rattle.table.proofs.Codes.{Fits, ready-fits, ready-none}
 use Rattle.book.specs.Books.{emptyBook, bookFor, readingFor, reading, namePlace}
 use Rattle.book.specs.declared.Reading.{Reading}
 use Rattle.reader.proofs.Found.{lines-ready, lines-viewed}
-
--- what holds of all elements and of the default holds of the element at any index
-all-getD : {A : Type 0} (f : A → Bool) (l : List A) (n : ℕ) (d : A) → all f l ≡ true → f d ≡ true → f (getD l n d) ≡ true
-all-getD f [] n d h k = k
-all-getD f (x ∷ l) zero d h k = and-true-split (f x) (all f l) h .0
-all-getD f (x ∷ l) (suc n) d h k = all-getD f l n d (and-true-split (f x) (all f l) h .1) k
 
 module _ (s : Bytes) where
   abbrev found : Table
@@ -90,4 +83,4 @@ module _ (s : Bytes) where
   name-inside n =
       let i = rw (found-ready .1) at (found-ready .0 .inText) in
       let none : Span = record { start = 0; size = 0 } in
-      leb-true _ _ (all-getD (inside (length s)) (found .variables ++ found .symbols) n none i (le-leb 0 (length s) (omega arith)))
+      leb-true _ _ (all-getD (inside (length s)) (found .variables ++ found .symbols) n none (le-leb 0 (length s) (omega arith)) i)

@@ -1,19 +1,20 @@
 -- Words read as valuations: how many there are, which four words are the i-th, what a store of four words does, and what a count
 -- with the words says. For the functions of this crate and for the crates that collect and write rows. Only here is `valuationsIn` unfolded.
 use mathlib.Core.Path.{_≡_, refl, sym, ap, ap₂, _∙_}
-use mathlib.Core.Bool.{Bool, true, false, cond}
+use mathlib.Core.Bool.{true}
 use mathlib.Core.List.{List, [], _∷_, map, List·Memᴰ}
 use Prim.Native.Nat.{ℕ, _+_, _*_, _^_, _≤_, _<_}
 use native.Mathlib.Decide.{ℕ-discrete}
-use native.Mathlib.Nat.{zero-add, add-zero}
+use native.Mathlib.Nat.{add-zero}
 use native.Mathlib.Omega.{arith}
-use borrow.Author.Tests.{leb-true, leb-false, le-leb, lt-leb, lt-ltb}
-use lib.Dec.{leb}
-use lib.ListN.{length, getD, set, take, length-set, length-map}
-use lib.Seq.{ext-getD, getD-set-same, getD-set-other, length-take-le}
+use borrow.Author.Tests.{lt-ltb}
+use lib.ListN.{length, getD, set, take, length-set}
+use lib.Seq.{ext-getD, getD-set-same, getD-set-other}
 use Rattle.laws.specs.Lists.{all, numbers}
-use Rattle.laws.specs.Sets.{full, grown, within}
-use Rattle.laws.proofs.Lists.{mem-index, length-numbers, getD-numbers}
+use Rattle.laws.specs.Sets.{full, grown}
+use Rattle.laws.proofs.Lists.{mem-index}
+use Rattle.laws.proofs.Places.{length-of, getD-of}
+use Rattle.laws.proofs.Turns.{counted, counted-few, counted-over, few-counted, over-counted}
 use Rattle.meaning.specs.Events.{Valuation, word32}
 use Rattle.work.specs.Bounded.{rowLimit}
 use Rattle.rows.specs.Valuations.{valuationsIn, rowsGrown}
@@ -37,11 +38,11 @@ all-in w = refl
 module _ (n : ℕ) where
   first-length : (w : List ℕ) → length (firstIn n w) ≡ n
   unfolding firstIn
-  first-length w = length-map (numbers 0 n) _ ∙ length-numbers 0 n
+  first-length w = length-of (λ i. map (λ v. getD w (i * 4 + v) 0) (numbers 0 4)) n
 
   first-at : (w : List ℕ) (i : ℕ) → i < n → getD (firstIn n w) i [] ≡ wordsAt w i
   unfolding firstIn
-  first-at w i h = getD-numbers (λ i. map (λ v. getD w (i * 4 + v) 0) (numbers 0 4)) 0 n i [] h ∙ rw (zero-add i, add-zero (i * 4))
+  first-at w i h = getD-of (λ i. map (λ v. getD w (i * 4 + v) 0) (numbers 0 4)) n i [] h ∙ rw (add-zero (i * 4))
 
 module _ (w : List ℕ) (i a b c d : ℕ) where
   -- the words of another valuation stay
@@ -123,35 +124,18 @@ word-in w h σ m =
     ap (all word32) (k .2) ∙ rw (lt-ltb _ _ (h (i * 4)), lt-ltb _ _ (h (i * 4 + 1)), lt-ltb _ _ (h (i * 4 + 2)), lt-ltb _ _ (h (i * 4 + 3)))
 
 -- a count and the words, by what they say
-pub in-grown : (n : ℕ) (w : List ℕ) → n ≤ rowLimit → rowsGrown n w ≡ grown (take n (valuationsIn w))
+pub in-counted : (n : ℕ) (w : List ℕ) → rowsGrown n w ≡ counted rowLimit n (take n (valuationsIn w))
 unfolding rowsGrown
-in-grown n w h = rw (le-leb n rowLimit h)
+in-counted n w = refl
+
+pub in-grown : (n : ℕ) (w : List ℕ) → n ≤ rowLimit → rowsGrown n w ≡ grown (take n (valuationsIn w))
+in-grown n w h = in-counted n w ∙ counted-few rowLimit n (take n (valuationsIn w)) h
 
 pub in-full : (n : ℕ) (w : List ℕ) → rowLimit < n → rowsGrown n w ≡ full
-unfolding rowsGrown
-in-full n w h = rw (lt-leb n rowLimit h)
+in-full n w h = in-counted n w ∙ counted-over rowLimit n (take n (valuationsIn w)) h
 
 pub grown-in : (n : ℕ) (w : List ℕ) (l : List Valuation) → rowsGrown n w ≡ grown l → (n ≤ rowLimit) × (take n (valuationsIn w) ≡ l)
-unfolding rowsGrown
-grown-in n w l e = go (leb n rowLimit) refl e
-  where
-    go : (b : Bool) → leb n rowLimit ≡ b → cond b (grown (take n (valuationsIn w))) full ≡ grown l → (n ≤ rowLimit) × (take n (valuationsIn w) ≡ l)
-    go true h q = (leb-true n rowLimit h, cc)
-    go false h q = let z : _≡_ {A = ℕ} 0 1 = cc in absurd (omega arith)
+grown-in n w l e = few-counted rowLimit n (take n (valuationsIn w)) l (sym (in-counted n w) ∙ e)
 
 pub full-in : (n : ℕ) (w : List ℕ) → rowsGrown n w ≡ full → rowLimit < n
-unfolding rowsGrown
-full-in n w e = go (leb n rowLimit) refl e
-  where
-    go : (b : Bool) → leb n rowLimit ≡ b → cond b (grown (take n (valuationsIn w))) full ≡ full → rowLimit < n
-    go true h q = let z : _≡_ {A = ℕ} 0 1 = cc in absurd (omega arith)
-    go false h q = leb-false n rowLimit h
-
--- a count with the words against a list that has at most 2,064 elements, or more
-pub in-within : (n : ℕ) (w : List ℕ) (l : List Valuation) → n ≤ rowLimit → take n (valuationsIn w) ≡ l → rowsGrown n w ≡ within rowLimit l
-in-within n w l h e =
-    let size : length l ≡ n = ap length (sym e) ∙ length-take-le n (valuationsIn w) (omega (arith, in-length w)) in
-    in-grown n w h ∙ ap grown e ∙ rw (le-leb (length l) rowLimit (omega arith))
-
-pub over-within : (n : ℕ) (w : List ℕ) (l : List Valuation) → rowLimit < n → rowLimit < length l → rowsGrown n w ≡ within rowLimit l
-over-within n w l h k = in-full n w h ∙ rw (lt-leb (length l) rowLimit k)
+full-in n w e = over-counted rowLimit n (take n (valuationsIn w)) (sym (in-counted n w) ∙ e)

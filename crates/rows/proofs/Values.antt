@@ -1,16 +1,13 @@
--- The comparison of two lists of values from the k-th value on, by their k-th values; and a list of four by its elements.
--- For the recursive comparison of valuations and for the store of one.
-use mathlib.Core.Path.{_≡_, refl, ap, _∙_}
-use mathlib.Core.List.{List, [], _∷_}
-use Prim.Native.Nat.{ℕ, _+_, _≤_, _<_, Ordering, Ordering·lt, Ordering·eq, Ordering·gt}
+-- The comparison of two lists of values from the k-th value on, by their k-th values. For the recursive comparison of valuations.
+use mathlib.Core.Path.{_≡_, ap, _∙_}
+use mathlib.Core.List.{List}
+use Prim.Native.Nat.{ℕ, _+_, _≤_, _<_, Ordering·lt, Ordering·eq, Ordering·gt}
 use native.Mathlib.Numerals.{add-one}
-use native.Mathlib.Omega.{arith}
 use lib.ListN.{length, getD, drop, drop-of-length-le}
 use lib.Seq.{drop-cons}
 use Rattle.laws.specs.Order.{flip}
 use Rattle.laws.proofs.Order.{lt-compare, compare-order}
 use Rattle.meaning.specs.Rows.{compareValuations}
-use Rattle.slot.specs.Slots.{rank}
 
 -- no value is left
 pub none-left : (a b : List ℕ) (k : ℕ) → length a ≤ k → length b ≤ k → compareValuations (drop k a) (drop k b) ≡ Ordering·eq
@@ -30,27 +27,3 @@ module _ (a b : List ℕ) (k : ℕ) (p : k < length a) (q : k < length b) where
 
   pub first-same : getD a k 0 ≡ getD b k 0 → compareValuations (drop k a) (drop k b) ≡ compareValuations (drop (k + 1) a) (drop (k + 1) b)
   first-same h = rw (add-one k, drop-cons a k 0 p, drop-cons b k 0 q, h, compare-order .self (getD b k 0))
-
-pub by-four : (x : List ℕ) → length x ≡ 4 → x ≡ getD x 0 0 ∷ getD x 1 0 ∷ getD x 2 0 ∷ getD x 3 0 ∷ []
-by-four [] h = absurd (omega arith)
-by-four (a ∷ []) h = absurd (omega arith)
-by-four (a ∷ b ∷ []) h = absurd (omega arith)
-by-four (a ∷ b ∷ c ∷ []) h = absurd (omega arith)
-by-four (a ∷ b ∷ c ∷ d ∷ []) h = refl
-by-four (a ∷ b ∷ c ∷ d ∷ e ∷ l) h = absurd (omega arith)
-
--- a comparison by its number
-pub ranked-before : (c : Ordering) → (rank c ≡ 2 → ⊥) → (rank c ≡ 1 → ⊥) → c ≡ Ordering·lt
-ranked-before Ordering·lt h k = refl
-ranked-before Ordering·eq h k = absurd (k refl)
-ranked-before Ordering·gt h k = absurd (h refl)
-
-pub ranked-same : (c : Ordering) → rank c ≡ 1 → c ≡ Ordering·eq
-ranked-same Ordering·lt h = absurd (omega arith)
-ranked-same Ordering·eq h = refl
-ranked-same Ordering·gt h = absurd (omega arith)
-
-pub ranked-after : (c : Ordering) → rank c ≡ 2 → c ≡ Ordering·gt
-ranked-after Ordering·lt h = absurd (omega arith)
-ranked-after Ordering·eq h = absurd (omega arith)
-ranked-after Ordering·gt h = refl

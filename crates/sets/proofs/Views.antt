@@ -2,23 +2,19 @@
 use mathlib.Core.Path.{_≡_, refl, sym, ap, _∙_}
 use mathlib.Core.Bool.{true, false}
 use mathlib.Core.List.{List, [], _∷_, map}
-use Prim.Native.Nat.{ℕ, zero, suc, _+_, _*_, _≤_, _<_}
+use Prim.Native.Nat.{ℕ, suc, _+_, _*_, _≤_, _<_}
 use native.Mathlib.Omega.{arith}
 use lib.ListN.{length, take, getD, set}
 use Rattle.laws.proofs.Places.{by-index}
 use Rattle.meaning.specs.Labels.{Entry, bound, free, exclusions}
 use Rattle.slot.specs.declared.Slot.{Slot}
 use Rattle.slot.specs.Slots.{viewSlot, slotOf}
+use Rattle.slot.proofs.Slots.{view-free, view-taken}
 use Rattle.disjunct.specs.declared.Disjunct.{Disjunct}
 use Rattle.disjunct.specs.Disjuncts.{viewDisjunct}
+use Rattle.disjunct.proofs.Slots.{noSlot}
 use Rattle.sets.specs.Sets.{entryAt, entriesIn, disjunctsIn}
 use Rattle.sets.proofs.Words.{six, entry-bound, entry-free, store-bound, store-free, disjuncts-put}
-
--- as many as were taken, taken again
-retaken : (c : ℕ) (l : List ℕ) → take (length (take c l)) l ≡ take c l
-retaken zero l = refl
-retaken (suc c) [] = refl
-retaken (suc c) (x ∷ l) = ap (λ r. x ∷ r) (retaken c l)
 
 -- `read_slot`: a value, or so many of the six words behind the count
 pub read-bound : (w : List ℕ) (at : ℕ) (r : Slot) → at + 7 ≤ length w → getD w at 0 ≡ 7 → r ≡ slotOf (bound (getD w (at + 1) 0)) → viewSlot r ≡ entryAt w at
@@ -37,9 +33,8 @@ unfolding viewSlot
 write-bound w j s h l b = rw b (store-bound w j (s .value) h l)
 
 -- a free slot by how many exclusions it counts
-view-free : (s : Slot) (n : ℕ) → s .bound ≡ false → n ≡ length (exclusions (viewSlot s)) → viewSlot s ≡ free (take n (s .excluded))
-unfolding viewSlot
-view-free s n b e = rw (e, b) (ap free (sym (retaken (s .count) (s .excluded))))
+view-counted : (s : Slot) (n : ℕ) → s .bound ≡ false → n ≡ length (exclusions (viewSlot s)) → viewSlot s ≡ free (take n (s .excluded))
+view-counted s n b e = let v = view-free s b in v ∙ ap free (sym (ap exclusions v) ∙ view-taken s n e)
 
 pub write-free : (w : List ℕ) (j : ℕ) (s : Slot) (n : ℕ) → j < 512 → length w ≡ 3584 → s .bound ≡ false → length (s .excluded) ≡ 6
     → n ≡ length (exclusions (viewSlot s)) → n ≤ 6 → let at = j * 7 in let x : ℕ → ℕ = λ k. getD (s .excluded) k 0 in
@@ -49,16 +44,12 @@ write-free w j s n h l b f e m =
     let x : ℕ → ℕ = λ k. getD (s .excluded) k 0 in
     store-free w j n (x 0) (x 1) (x 2) (x 3) (x 4) (x 5) h l m
     ∙ ap (λ xs. set (entriesIn w) j (free (take n xs))) (sym (by-index 0 (s .excluded) 6 f))
-    ∙ ap (set (entriesIn w) j) (sym (view-free s n b e))
+    ∙ ap (set (entriesIn w) j) (sym (view-counted s n b e))
 
 -- `get` and `put`: a disjunct of four slots
 pub view-four : (a b c e : Slot) → viewDisjunct (record { vars = a ∷ b ∷ c ∷ e ∷ [] }) ≡ viewSlot a ∷ viewSlot b ∷ viewSlot c ∷ viewSlot e ∷ []
 unfolding viewDisjunct
 view-four a b c e = refl
-
--- what the code reads beyond an array of slots
-abbrev pub noSlot : Slot
-noSlot = record { bound = false; value = 0; count = 0; excluded = [] }
 
 pub write-four : (w v : List ℕ) (i : ℕ) (d : Disjunct) → i < 128 → length (d .vars) ≡ 4 → let x : ℕ → Entry = λ k. viewSlot (getD (d .vars) k noSlot) in
     entriesIn v ≡ set (set (set (set (entriesIn w) (i * 4) (x 0)) (i * 4 + 1) (x 1)) (i * 4 + 2) (x 2)) (i * 4 + 3) (x 3)
@@ -69,4 +60,5 @@ write-four w v i d h l p =
     let e₁ : i * 4 + 1 ≡ suc (i * 4) = omega arith in
     let e₂ : i * 4 + 2 ≡ suc (suc (i * 4)) = omega arith in
     let e₃ : i * 4 + 3 ≡ suc (suc (suc (i * 4))) = omega arith in
-    disjuncts-put w v i (x 0) (x 1) (x 2) (x 3) h (rw (e₁, e₂, e₃) at p) ∙ ap (λ xs. set (disjunctsIn w) i (map viewSlot xs)) (sym (by-index noSlot (d .vars) 4 l))
+    disjuncts-put w v i (x 0) (x 1) (x 2) (x 3) h (rw (e₁, e₂, e₃) at p)
+    ∙ ap (λ xs. set (disjunctsIn w) i (map viewSlot xs)) (sym (by-index noSlot (d .vars) 4 l))

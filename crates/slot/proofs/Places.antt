@@ -1,20 +1,19 @@
 -- Searches and comparisons of lists from an index on, and an insertion by the number of elements before the value: for the
 -- loops of this crate.
-use mathlib.Core.Path.{_≡_, refl, sym, ap, _∙_}
+use mathlib.Core.Path.{_≡_, refl, sym, ap}
 use mathlib.Core.Bool.{Bool, true, false, cond}
 use mathlib.Core.List.{List, [], _∷_, _++_}
 use Prim.Native.Nat.{ℕ, zero, suc, _+_, _≤_, _<_, compare, Ordering·lt, Ordering·eq, Ordering·gt}
 use native.Mathlib.Nat.{not-suc-le-zero}
-use native.Mathlib.Numerals.{add-one}
 use native.Mathlib.Omega.{arith}
 use lib.Dec.{eqb, ltb}
-use lib.ListN.{length, take, drop, getD, length-take, drop-of-length-le}
-use lib.Seq.{drop-cons, getD-take, length-take-le}
+use lib.ListN.{length, take, drop, getD}
 use borrow.Author.Tests.{lt-ltb, le-ltb, eq-eqb, ne-eqb, ltb-true, ltb-false}
 use Rattle.laws.specs.Lists.{any}
-use Rattle.laws.specs.Order.{flip, andThen, lex}
+use Rattle.laws.specs.Order.{andThen, lex}
 use Rattle.laws.specs.Sets.{put, insert}
-use Rattle.laws.proofs.Order.{compare-order, lt-compare}
+use Rattle.laws.proofs.Lists.{taken-cons, taken-none}
+use Rattle.laws.proofs.Order.{compare-order, lt-compare, gt-compare}
 use Rattle.slot.specs.Slots.{smaller}
 
 -- taken again, as many as there are
@@ -23,9 +22,6 @@ retaken zero l = refl
 retaken (suc n) [] = refl
 retaken (suc n) (x ∷ l) = ap (_∷_ x) (retaken n l)
 
-pub gt-compare : (m n : ℕ) → n < m → compare m n ≡ Ordering·gt
-gt-compare m n h = compare-order .turned n m ∙ ap flip (lt-compare n m h)
-
 pub eq-compare : (m n : ℕ) → m ≡ n → compare m n ≡ Ordering·eq
 eq-compare m n h = rw h (compare-order .self n)
 
@@ -33,12 +29,9 @@ eq-compare m n h = rw h (compare-order .self n)
 abbrev pub rest : List ℕ → ℕ → ℕ → List ℕ
 rest xs n i = drop i (take n xs)
 
-pub rest-none : (xs : List ℕ) (n i : ℕ) → n ≤ i → rest xs n i ≡ []
-rest-none xs n i h = drop-of-length-le (take n xs) {i = i} (omega (arith, length-take n xs))
-
 module _ (xs : List ℕ) (n i : ℕ) (h : i < n) (f : n ≤ length xs) where
-  pub rest-first : rest xs n i ≡ getD xs i 0 ∷ rest xs n (i + 1)
-  rest-first = rw (← getD-take n xs i 0 h, add-one i) (drop-cons (take n xs) i 0 (omega (arith, length-take-le n xs f)))
+  rest-first : rest xs n i ≡ getD xs i 0 ∷ rest xs n (i + 1)
+  rest-first = taken-cons xs n i 0 h f
 
   -- the numbers before x at the beginning
   pub smaller-more : (x : ℕ) → getD xs i 0 < x → smaller x (rest xs n i) ≡ suc (smaller x (rest xs n (i + 1)))
@@ -72,13 +65,13 @@ module _ (xs ys : List ℕ) (m n i : ℕ) (h : i < m) (f : m ≤ length xs) (k :
 -- one of which is over
 module _ (xs ys : List ℕ) (m n i : ℕ) where
   pub lex-shorter : m ≤ i → i < n → n ≤ length ys → lex compare (rest xs m i) (rest ys n i) ≡ Ordering·lt
-  lex-shorter h k g = rw (rest-none xs m i h, rest-first ys n i k g)
+  lex-shorter h k g = rw (taken-none xs m i h, rest-first ys n i k g)
 
   pub lex-longer : i < m → m ≤ length xs → n ≤ i → lex compare (rest xs m i) (rest ys n i) ≡ Ordering·gt
-  lex-longer h f k = rw (rest-first xs m i h f, rest-none ys n i k)
+  lex-longer h f k = rw (rest-first xs m i h f, taken-none ys n i k)
 
   pub lex-over : m ≤ i → n ≤ i → lex compare (rest xs m i) (rest ys n i) ≡ Ordering·eq
-  lex-over h k = rw (rest-none xs m i h, rest-none ys n i k)
+  lex-over h k = rw (taken-none xs m i h, taken-none ys n i k)
 
 pub smaller-few : (x : ℕ) (l : List ℕ) → smaller x l ≤ length l
 smaller-few x [] = omega arith

@@ -3,7 +3,7 @@
 use mathlib.Core.Path.{_≡_, refl, ap, _∙_}
 use mathlib.Core.Bool.{Bool, true, false, cond}
 use mathlib.Core.List.{List}
-use Prim.Native.Nat.{ℕ, min, Ordering, Ordering·lt, Ordering·eq, Ordering·gt}
+use Prim.Native.Nat.{ℕ, _≤_, min, Ordering, Ordering·lt, Ordering·eq, Ordering·gt}
 use native.Mathlib.Omega.{arith}
 use lib.Dec.{leb}
 use lib.ListN.{length, take, length-take}
@@ -50,13 +50,23 @@ tidy-free s n xs h e p =
     rw (p, view-free s h, ← view-taken s n e, v)
     (ap (λ k. record { bound = false; value = 0; count = k; excluded = pad 6 0 (take (s .count) (s .excluded)) }) (e ∙ ap length v))
 
-pub few-slot : (s : Slot) → length (s .excluded) ≡ 6 → leb (length (exclusions (viewSlot s))) 6 ≡ true
+-- no more is excluded than there are places for
+pub few-places : (s : Slot) → length (s .excluded) ≤ 6 → leb (length (exclusions (viewSlot s))) 6 ≡ true
 unfolding viewSlot
-few-slot s h = go (s .bound)
+few-places s h = go (s .bound)
   where
     go : (b : Bool) → leb (length (exclusions (cond b (bound (s .value)) (free (take (s .count) (s .excluded)))))) 6 ≡ true
     go true = refl
     go false = le-leb (length (take (s .count) (s .excluded))) 6 (omega (arith, length-take (s .count) (s .excluded)))
+
+pub few-slot : (s : Slot) → length (s .excluded) ≡ 6 → leb (length (exclusions (viewSlot s))) 6 ≡ true
+few-slot s h = few-places s (omega arith)
+
+-- a comparison by its number
+pub rank-before : (o : Ordering) → (rank o ≡ 2 → ⊥) → (rank o ≡ 1 → ⊥) → o ≡ Ordering·lt
+rank-before Ordering·lt h k = refl
+rank-before Ordering·eq h k = absurd (k refl)
+rank-before Ordering·gt h k = absurd (h refl)
 
 pub rank-equal : (a b : Ordering) → rank a ≡ rank b → a ≡ b
 rank-equal Ordering·lt Ordering·lt h = refl

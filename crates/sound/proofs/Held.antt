@@ -10,12 +10,13 @@ use lib.Dec.{eqb}
 use lib.ListN.{length, take, getD, length-map, length-take, List·getD-map}
 use lib.Seq.{length-take-le, getD-take}
 use Rattle.laws.specs.Order.{isLess}
-use Rattle.laws.proofs.Order.{compare-order, compare-lt, lt-compare}
+use Rattle.laws.proofs.Order.{compare-order, compare-lt, lt-compare, gt-compare}
 use Rattle.meaning.specs.Labels.{Held, heldAt, compareHeld, compareDisjuncts}
 use Rattle.meaning.specs.Labels as Labels
 use Rattle.work.specs.Wide.{wide}
 use Rattle.work.specs.Bounded.{heldOf}
 use Rattle.work.proofs.WideDisjuncts.{wide-compare}
+use Rattle.work.proofs.Picks.{held-of-length}
 use Rattle.slot.specs.Slots.{rank}
 use Rattle.disjunct.specs.declared.Disjunct.{Disjunct}
 use Rattle.disjunct.specs.Disjuncts.{viewDisjunct, disjunctOf}
@@ -39,15 +40,12 @@ less-rank Ordering·lt = refl
 less-rank Ordering·eq = refl
 less-rank Ordering·gt = refl
 
-compare-gt : (a b : ℕ) → b < a → compare a b ≡ Ordering·gt
-compare-gt a b h = rw (compare-order .turned b a, lt-compare b a h)
-
 -- two held disjuncts at different positions
 pub held-before : (p q : ℕ) (D E : Labels.Disjunct) → p < q → true ≡ isLess (compareHeld (heldAt p D) (heldAt q E))
 held-before p q D E h = rw (lt-compare p q h)
 
 pub held-after : (p q : ℕ) (D E : Labels.Disjunct) → q < p → false ≡ isLess (compareHeld (heldAt p D) (heldAt q E))
-held-after p q D E h = rw (compare-gt p q h)
+held-after p q D E h = rw (gt-compare p q h)
 
 -- tidied to n variables, two disjuncts compare as their first n variables do
 tidied-compare : (n : ℕ) (d e : Disjunct) → length (d .vars) ≡ 4 → length (e .vars) ≡ 4
@@ -71,11 +69,6 @@ held-same p q n d e x y o g h j k a b r =
     (less-rank (compareDisjuncts (take n (viewDisjunct d)) (take n (viewDisjunct e))))
 
 -- what is held, by its index
-held-of-length : (ps : List ℕ) (l : List Labels.Disjunct) → length ps ≡ length l → length (heldOf ps l) ≡ length ps
-held-of-length [] l h = refl
-held-of-length (p ∷ ps) [] h = absurd (omega arith)
-held-of-length (p ∷ ps) (D ∷ l) h = ap suc (held-of-length ps l (omega arith))
-
 held-of-at : (ps : List ℕ) (l : List Labels.Disjunct) (i a : ℕ) (D : Labels.Disjunct) (h : Held) → i < length ps → i < length l
     → getD (heldOf ps l) i h ≡ heldAt (getD ps i a) (getD l i D)
 held-of-at [] l i a D h j k = absurd (not-suc-le-zero j)
@@ -91,7 +84,8 @@ module _ (n : ℕ) (s : State) (g : s .count ≤ length (s .positions)) (h : s .
   unfolding heldFirst
   held-length =
       let e = length-take-le (s .count) (s .positions) g in
-      held-of-length (take (s .count) (s .positions)) (map (λ d. take n (viewDisjunct d)) (take (s .count) (s .pool))) (e ∙ sym taken) ∙ e
+      let l = map (λ d. take n (viewDisjunct d)) (take (s .count) (s .pool)) in
+      held-of-length (take (s .count) (s .positions)) l (e ∙ sym taken) ∙ taken
 
   pub held-at : (i : ℕ) (x : Held) (d : Disjunct) → i < s .count
       → getD (heldFirst n s) i x ≡ heldAt (getD (s .positions) i 0) (take n (viewDisjunct (getD (s .pool) i d)))

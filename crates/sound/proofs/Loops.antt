@@ -1,26 +1,19 @@
 -- A test of every element, and of neighbours, taken one element at a time: what a loop over an array keeps, and what it has found
 -- where it stops. For the loops of this crate.
 use mathlib.Core.Path.{_≡_, refl, sym, ap, ap₂, _∙_}
-use mathlib.Core.Bool.{Bool, true, false, _&&_}
+use mathlib.Core.Bool.{Bool, true, false, _&&_, and-false}
 use mathlib.Core.List.{List, [], _∷_}
 use Prim.Native.Nat.{ℕ, suc, _+_, _-_, _≤_, _<_, Ordering}
-use native.Mathlib.Numerals.{add-one}
 use native.Mathlib.Omega.{arith}
-use lib.ListN.{length, take, drop, getD, length-take, length-drop, drop-of-length-le}
-use lib.Seq.{length-take-le, drop-cons, getD-take}
+use lib.ListN.{length, take, drop, getD, length-drop}
+use lib.Seq.{drop-cons, getD-take}
 use Rattle.laws.specs.Lists.{all}
 use Rattle.laws.specs.Order.{isLess, ascending}
+use Rattle.laws.proofs.Lists.{taken-cons, taken-none}
 
 -- the first n elements, from the element i on
 abbrev pub ahead : {A : Type 0} → ℕ → ℕ → List A → List A
 ahead i n xs = drop i (take n xs)
-
-module _ {A : Type 0} where
-  pub ahead-cons : (xs : List A) (n i : ℕ) (d : A) → i < n → n ≤ length xs → ahead i n xs ≡ getD xs i d ∷ ahead (i + 1) n xs
-  ahead-cons xs n i d h k = rw (add-one, drop-cons (take n xs) i d (omega (arith, length-take-le n xs k)), getD-take n xs i d h)
-
-  pub ahead-none : (xs : List A) (n i : ℕ) → n ≤ i → ahead i n xs ≡ []
-  ahead-none xs n i h = drop-of-length-le (take n xs) {i = i} (omega (arith, length-take n xs))
 
 -- a loop that tests each of the first n elements
 module _ {A : Type 0} (f : A → Bool) (xs : List A) (n : ℕ) where
@@ -30,7 +23,7 @@ module _ {A : Type 0} (f : A → Bool) (xs : List A) (n : ℕ) where
 
   module _ (i : ℕ) (d : A) (h : i < n) (k : n ≤ length xs) (t : Told i) {r : Bool} (e : r ≡ f (getD xs i d)) where
     told-next : (r && all f (ahead (i + 1) n xs)) ≡ all f (take n xs)
-    told-next = rw e (sym (ap (all f) (ahead-cons xs n i d h k)) ∙ t)
+    told-next = rw e (sym (ap (all f) (taken-cons xs n i d h k)) ∙ t)
 
     pub told-more : r ≡ true → Told (i + 1)
     told-more p = ap (λ b. b && all f (ahead (i + 1) n xs)) (sym p) ∙ told-next
@@ -39,11 +32,7 @@ module _ {A : Type 0} (f : A → Bool) (xs : List A) (n : ℕ) where
     told-stop p = ap (λ b. b && all f (ahead (i + 1) n xs)) (sym p) ∙ told-next
 
   pub told-end : (i : ℕ) → n ≤ i → Told i → true ≡ all f (take n xs)
-  told-end i h t = sym (ap (all f) (ahead-none xs n i h)) ∙ t
-
-pub and-false : (b : Bool) → (b && false) ≡ false
-and-false true = refl
-and-false false = refl
+  told-end i h t = sym (ap (all f) (taken-none xs n i h)) ∙ t
 
 -- a loop that tests the first n elements of two lists side by side
 module _ {A B : Type 0} (f : A → Bool) (g : B → Bool) (xs : List A) (ys : List B) (n : ℕ) where
@@ -53,7 +42,7 @@ module _ {A B : Type 0} (f : A → Bool) (g : B → Bool) (xs : List A) (ys : Li
 
   module _ (i : ℕ) (x : A) (y : B) (h : i < n) (j : n ≤ length xs) (k : n ≤ length ys) {whole : Bool} (t : pairs i ≡ whole) where
     pairs-next : (f (getD xs i x) && all f (ahead (i + 1) n xs) && (g (getD ys i y) && all g (ahead (i + 1) n ys))) ≡ whole
-    pairs-next = sym (ap₂ (λ a b. all f a && all g b) (ahead-cons xs n i x h j) (ahead-cons ys n i y h k)) ∙ t
+    pairs-next = sym (ap₂ (λ a b. all f a && all g b) (taken-cons xs n i x h j) (taken-cons ys n i y h k)) ∙ t
 
     pub pairs-more : f (getD xs i x) ≡ true → g (getD ys i y) ≡ true → pairs (i + 1) ≡ whole
     pairs-more p q = ap₂ (λ a b. a && all f (ahead (i + 1) n xs) && (b && all g (ahead (i + 1) n ys))) (sym p) (sym q) ∙ pairs-next
@@ -68,7 +57,7 @@ module _ {A B : Type 0} (f : A → Bool) (g : B → Bool) (xs : List A) (ys : Li
         sym (and-false a) ∙ ap (λ b. a && (b && all g (ahead (i + 1) n ys))) (sym q) ∙ pairs-next
 
   pub pairs-end : (i : ℕ) → n ≤ i → {whole : Bool} → pairs i ≡ whole → true ≡ whole
-  pairs-end i h t = sym (ap₂ (λ a b. all f a && all g b) (ahead-none xs n i h) (ahead-none ys n i h)) ∙ t
+  pairs-end i h t = sym (ap₂ (λ a b. all f a && all g b) (taken-none xs n i h) (taken-none ys n i h)) ∙ t
 
 -- a loop that compares each element with the one before it
 module _ {A : Type 0} (cmp : A → A → Ordering) (l : List A) where

@@ -1,21 +1,22 @@
 -- The definitions of soundness by the parts that the code tests one by one. For `sound_slot`, `sound_symbol`, `sound_pattern`,
 -- `sound_book` and `sound_state`.
-use mathlib.Core.Path.{_≡_, refl, sym, ap, ap₂, subst, _∙_}
-use mathlib.Core.Bool.{Bool, true, false, not, _&&_, and-true, and-eq-true-iff, true≢false}
-use mathlib.Core.List.{List, [], _∷_, map, List·Memᴰ, Memᴰ·append-left}
+use mathlib.Core.Path.{_≡_, refl, sym, ap, ap₂, _∙_}
+use mathlib.Core.Bool.{Bool, true, false, not, _&&_, and-true, and-false, and-eq-true-iff, true≢false}
+use mathlib.Core.List.{List, [], _∷_, map}
 use Prim.Native.Nat.{ℕ, zero, suc, compare, _+_, _*_, _%_, _^_, _≤_, _<_}
 use native.Mathlib.Nat.{one-mul, mod-lt}
 use native.Mathlib.Numerals.{add-one}
 use native.Mathlib.Omega.{arith}
 use borrow.Author.Tests.{lt-ltb, le-ltb, le-leb, lt-leb, leb-true, eq-eqb, ne-eqb}
 use lib.Dec.{eqb, leb, ltb}
-use lib.ListN.{length, take, drop, length-map, length-take, take-append-drop}
+use lib.ListN.{length, take, length-map, length-take}
 use lib.Pow.{shl-exact}
 use lib.Seq.{length-take-le}
 use Rattle.laws.specs.Bits.{bit}
 use Rattle.laws.specs.Lists.{all}
 use Rattle.laws.specs.Order.{ascending}
-use Rattle.laws.proofs.Lists.{and-true-split, all-append, all-map, all-agree}
+use Rattle.laws.proofs.Lists.{and-swap, and-front, all-map, all-take, all-agree, mem-take}
+use Rattle.laws.proofs.Maps.{take-map}
 use Rattle.meaning.specs.Events.{word32}
 use Rattle.meaning.specs.Book.{soundPlace, soundSymbol, soundMask, soundBook}
 use Rattle.meaning.specs.Labels.{compareHeld}
@@ -33,36 +34,14 @@ use Rattle.book.specs.declared.Book.{Book}
 use Rattle.book.specs.Books.{viewBook}
 use Rattle.state.specs.declared.State.{State}
 use Rattle.state.specs.States.{heldFirst, viewState}
-use Rattle.sound.specs.Soundness.{slotCounts, symbolCounts, bookCounts}
-use Rattle.sound.specs.Tests.{slotSound, symbolSound, patternSound}
-use Rattle.sound.specs.Soundness.{bookSound, stateCounts, stateSound}
-use Rattle.sound.specs.Tests.{disjunctSound, poolSound}
-use Rattle.sound.proofs.Loops.{and-false}
+use Rattle.sound.specs.Soundness.{slotCounts, symbolCounts, bookCounts, bookSound, stateCounts, stateSound}
+use Rattle.sound.specs.Tests.{slotSound, symbolSound, patternSound, disjunctSound, poolSound}
 use Rattle.sound.proofs.Sizes.{Words, StateSized, BookSized}
 use Rattle.sound.proofs.Held.{held-length}
 
-and-swap : (a b c d : Bool) → (a && b && (c && d)) ≡ (a && c && (b && d))
-and-swap true true c d = refl
-and-swap true false c d = sym (and-false c)
-and-swap false b c d = refl
-
-module _ {A : Type 0} where
-  all-take : (f : A → Bool) (n : ℕ) (l : List A) → all f l ≡ true → all f (take n l) ≡ true
-  all-take f n l h =
-      let e = sym (all-append f (take n l) (drop n l)) ∙ ap (all f) (take-append-drop n l) ∙ h in
-      and-true-split (all f (take n l)) (all f (drop n l)) e .0
-
-  all-and : (f g : A → Bool) (l : List A) → all (λ x. f x && g x) l ≡ (all f l && all g l)
-  all-and f g [] = refl
-  all-and f g (x ∷ l) = ap (λ b. f x && g x && b) (all-and f g l) ∙ and-swap (f x) (g x) (all f l) (all g l)
-
-  take-map : {B : Type 0} (f : A → B) (n : ℕ) (l : List A) → take n (map f l) ≡ map f (take n l)
-  take-map f zero l = refl
-  take-map f (suc n) [] = refl
-  take-map f (suc n) (x ∷ l) = ap (λ r. f x ∷ r) (take-map f n l)
-
-  mem-take : (n : ℕ) {x : A} {l : List A} → List·Memᴰ x (take n l) → List·Memᴰ x l
-  mem-take n {x} {l} m = subst (List·Memᴰ x) (take-append-drop n l) (Memᴰ·append-left (drop n l) m)
+all-and : {A : Type 0} (f g : A → Bool) (l : List A) → all (λ x. f x && g x) l ≡ (all f l && all g l)
+all-and f g [] = refl
+all-and f g (x ∷ l) = ap (λ b. f x && g x && b) (all-and f g l) ∙ and-swap (f x) (g x) (all f l) (all g l)
 
 -- a slot: "no exclusions at a bound variable", or at most six of them, ascending
 leb-zero : (n : ℕ) → leb n 0 ≡ eqb n 0
@@ -96,10 +75,6 @@ pub place-other : (v : ℕ) (p : Place) → (p .tag ≡ 1 → ⊥) → (leb (p .
 place-other v p h = rw (ne-eqb (p .tag) 1 h) (and-true (leb (p .tag) 1) ∙ leb-one (p .tag) h)
 
 -- a symbol: its kind, and its places one by one
-and-front : (a b c : Bool) → (a && (b && c)) ≡ (b && (a && c))
-and-front a true c = refl
-and-front a false c = and-false a
-
 pub symbol-many : (v : ℕ) (y : Symbol) → 4 < y .count → symbolSound v y ≡ false
 unfolding symbolSound symbolCounts
 symbol-many v y h = rw (lt-leb (y .count) 4 h)

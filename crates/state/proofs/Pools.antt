@@ -1,17 +1,20 @@
 -- What the loops of `load` and `store` keep: the first i places taken over, in the lent words and in the state; and the state
 -- that holds nothing. For the proofs of `vacant`, `load` and `store`.
 use mathlib.Core.Path.{_≡_, refl, sym, ap, ap₂, _∙_}
-use mathlib.Core.List.{List, [], _∷_, _++_, map, map-map, append-assoc}
-use Prim.Native.Nat.{ℕ, zero, suc, _+_, _-_, _≤_, _<_}
+use mathlib.Core.List.{List, [], _∷_, map, map-map}
+use Prim.Native.Nat.{ℕ, _+_, _≤_, _<_}
 use native.Mathlib.Numerals.{add-one}
 use native.Mathlib.Omega.{arith}
-use lib.ListN.{length, take, getD, set, replicate, length-append, length-map, List·getD-map}
-use lib.Seq.{take-suc, take-suc-set, take-all, length-take-le, set-append-seam}
+use lib.ListN.{length, take, getD, set, replicate, length-map, List·getD-map}
+use lib.Seq.{take-suc, take-suc-set, take-all, length-take-le}
 use Rattle.laws.specs.Parts.{pad}
+use Rattle.laws.proofs.Maps.{take-map}
+use Rattle.laws.proofs.Parts.{pad-next}
 use Rattle.meaning.specs.Labels as Labels
 use Rattle.meaning.specs.Labels.{freeDisjunct, heldAt}
 use Rattle.work.specs.Wide.{wide, wideHeld}
 use Rattle.work.specs.Bounded.{heldOf}
+use Rattle.work.proofs.Picks.{held-of-length}
 use Rattle.disjunct.specs.declared.Disjunct.{Disjunct}
 use Rattle.disjunct.specs.Disjuncts.{viewDisjunct, disjunctOf}
 use Rattle.disjunct.proofs.Disjuncts.{view-disjunct}
@@ -22,45 +25,17 @@ use Rattle.step.proofs.Fills.{fill-more}
 use Rattle.state.specs.declared.State.{State}
 use Rattle.state.specs.States.{stateOf, heldFirst}
 
-module _ {A B : Type 0} where
-  take-map : (f : A → B) (n : ℕ) (l : List A) → take n (map f l) ≡ map f (take n l)
-  take-map f zero l = refl
-  take-map f (suc n) [] = refl
-  take-map f (suc n) (x ∷ l) = ap (λ r. f x ∷ r) (take-map f n l)
+-- one element more copied
+copy-more : {A : Type 0} (l r : List A) (i : ℕ) (d : A) → i < length l → i < length r → take i r ≡ take i l
+    → take (i + 1) (set r i (getD l i d)) ≡ take (i + 1) l
+copy-more l r i d h k e = rw (add-one i) (take-suc-set r i (getD l i d) k ∙ rw (take-suc l i d h, e))
 
-module _ {A : Type 0} where
-  -- one element more copied
-  copy-more : (l r : List A) (i : ℕ) (d : A) → i < length l → i < length r → take i r ≡ take i l → take (i + 1) (set r i (getD l i d)) ≡ take (i + 1) l
-  copy-more l r i d h k e = rw (add-one i) (take-suc-set r i (getD l i d) k ∙ rw (take-suc l i d h, e))
-
-  -- an element put behind those that are there takes the place of a filler
-  pad-more : (n : ℕ) (d : A) (l : List A) (x : A) → length l < n → set (pad n d l) (length l) x ≡ pad n d (l ++ x ∷ [])
-  unfolding pad
-  pad-more n d l x h =
-      let k = n - (length l + 1) in
-      let a : n - length l ≡ suc k = omega arith in
-      let b : n - length (l ++ x ∷ []) ≡ k = simp length-append (omega arith) in
-      ap (λ j. set (l ++ replicate j d) (length l) x) a ∙ set-append-seam l d (replicate k d) x
-      ∙ sym (ap (λ j. (l ++ x ∷ []) ++ replicate j d) b ∙ append-assoc l (x ∷ []) (replicate k d))
-
-  pad-next : (n : ℕ) (d : A) (l : List A) (i : ℕ) (z : A) → i < length l → i < n → set (pad n d (take i l)) i (getD l i z) ≡ pad n d (take (i + 1) l)
-  pad-next n d l i z h k =
-      let e : length (take i l) ≡ i = length-take-le i l (omega arith) in
-      ap (λ j. set (pad n d (take i l)) j (getD l i z)) (sym e) ∙ pad-more n d (take i l) (getD l i z) (omega arith)
-      ∙ ap (pad n d) (sym (take-suc l i z h) ∙ ap (λ j. take j l) (sym (add-one i)))
-
--- of what is held: made wide, counted, its positions, its disjuncts as the code's
+-- of what is held: made wide, its positions, its disjuncts as the code's
 held-wide : (ps : List ℕ) (l : List Labels.Disjunct) → map wideHeld (heldOf ps l) ≡ heldOf ps (map wide l)
 unfolding wideHeld
 held-wide [] l = refl
 held-wide (p ∷ ps) [] = refl
 held-wide (p ∷ ps) (D ∷ l) = ap (λ r. heldAt p (wide D) ∷ r) (held-wide ps l)
-
-held-length : (ps : List ℕ) (l : List Labels.Disjunct) → length ps ≡ length l → length (heldOf ps l) ≡ length l
-held-length [] [] h = refl
-held-length [] (D ∷ l) h = absurd (omega arith)
-held-length (p ∷ ps) [] h = refl
-held-length (p ∷ ps) (D ∷ l) h = ap suc (held-length ps l (omega arith))
 
 held-positions : (ps : List ℕ) (l : List Labels.Disjunct) → length ps ≡ length l → map (λ h. h .position) (heldOf ps l) ≡ ps
 held-positions [] l h = refl
@@ -169,7 +144,7 @@ module _ (number : ℕ) (at words : List ℕ) (n : ℕ) (s : State) where
         let held = heldOf ps l in
         let many : length l ≡ n = length-take-le n (disjunctsIn words) (omega (arith, in-length words)) in
         let same : length ps ≡ length l = length-take-le n at (omega (arith, g .long)) ∙ sym many in
-        ap₂ (λ x k. places x k (s .positions) (s .pool)) (g .numbered) (sym (held-length ps l same ∙ many))
+        ap₂ (λ x k. places x k (s .positions) (s .pool)) (g .numbered) (sym (held-of-length ps l same ∙ many))
         ∙ ap₂ (places number (length held))
         (rw e at (g .positions) ∙ ap (pad 128 0) (sym (held-positions ps l same)))
         (rw e at (g .pool) ∙ ap (pad 128 (disjunctOf [])) (take-map disjunctOf n (disjunctsIn words) ∙ sym (held-disjuncts ps l same)))

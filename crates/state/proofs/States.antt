@@ -1,13 +1,13 @@
 -- The state of the code against the plain one: a state that is coded and read again is as it was, and further free variables
 -- change nothing of the code's state. For the event call and the soundness of a state.
 use mathlib.Core.Path.{_≡_, refl, sym, ap, ap₂, _∙_}
-use mathlib.Core.List.{List, [], _∷_, _++_, map, map-map, map-append, List·Memᴰ, List·Memᴰ·head, List·Memᴰ·tail}
-use Prim.Native.Nat.{ℕ, zero, suc, _-_, _≤_}
+use mathlib.Core.List.{List, [], _∷_, map, map-map, List·Memᴰ}
+use Prim.Native.Nat.{ℕ, _≤_}
 use native.Mathlib.Omega.{arith}
-use lib.ListN.{length, take, replicate, length-map}
-use lib.Seq.{take-all}
+use lib.ListN.{length, take, length-map}
 use Rattle.laws.specs.Parts.{pad}
-use Rattle.laws.proofs.Parts.{pad-length, pad-take}
+use Rattle.laws.proofs.Maps.{map-agree}
+use Rattle.laws.proofs.Parts.{pad-length, pad-take, pad-full, map-pad}
 use Rattle.meaning.specs.Labels as Labels
 use Rattle.meaning.specs.Labels.{free, Held}
 use Rattle.work.specs.Wide.{wide, wideHeld}
@@ -20,28 +20,9 @@ use Rattle.state.specs.declared.State.{State}
 use Rattle.state.specs.States.{stateOf, heldFirst, viewState}
 
 module _ {A B : Type 0} where
-  -- maps that agree at the elements
-  map-agree : (f g : A → B) (l : List A) → ((x : A) → List·Memᴰ x l → f x ≡ g x) → map f l ≡ map g l
-  map-agree f g [] h = refl
-  map-agree f g (x ∷ l) h = ap₂ _∷_ (h x (List·Memᴰ·head refl)) (map-agree f g l (λ y m. h y (List·Memᴰ·tail m)))
-
-  map-replicate : (f : A → B) (n : ℕ) (d : A) → map f (replicate n d) ≡ replicate n (f d)
-  map-replicate f zero d = refl
-  map-replicate f (suc n) d = ap (λ l. f d ∷ l) (map-replicate f n d)
-
-  map-pad : (f : A → B) (n : ℕ) (d : A) (l : List A) → map f (pad n d l) ≡ pad n (f d) (map f l)
-  unfolding pad
-  map-pad f n d l =
-      map-append f l (replicate (n - length l) d)
-      ∙ ap (λ r. map f l ++ r) (map-replicate f (n - length l) d ∙ ap (λ k. replicate (n - k) (f d)) (sym (length-map l f)))
-
   -- what is counted of a padded map
   taken : (n : ℕ) (d : B) (f : A → B) (l : List A) → take (length l) (pad n d (map f l)) ≡ map f l
   taken n d f l = ap (λ k. take k (pad n d (map f l))) (sym (length-map l f)) ∙ pad-take n d (map f l)
-
--- a list that is long enough is padded with nothing
-pad-none : {A : Type 0} (n : ℕ) (d : A) (l : List A) → length l ≡ n → pad n d l ≡ l
-pad-none n d l h = sym (take-all n (pad n d l) (omega (arith, pad-length n d l (omega arith)))) ∙ ap (λ k. take k (pad n d l)) (sym h) ∙ pad-take n d l
 
 -- what is held by its positions and its disjuncts
 held-of : (held : List Held) → heldOf (map (λ h. h .position) held) (map (λ h. h .disjunct) held) ≡ held
@@ -68,14 +49,16 @@ wide-same : (D : Labels.Disjunct) → length D ≤ 4 → disjunctOf (wide D) ≡
 unfolding disjunctOf wide
 wide-same D h =
     let f = slotOf (free []) in
-    ap (λ l. record { vars = pad 4 f l }) (map-pad slotOf 4 (free []) D)
-    ∙ ap (λ l. record { vars = l }) (pad-none 4 f (pad 4 f (map slotOf D)) (pad-length 4 f (map slotOf D) (omega (arith, length-map D slotOf))))
+    let l = pad 4 f (map slotOf D) in
+    let n : length l ≡ 4 = pad-length 4 f (map slotOf D) (omega (arith, length-map D slotOf)) in
+    ap (λ l. record { vars = pad 4 f l }) (map-pad slotOf 4 (free []) D) ∙ ap (λ l. record { vars = l }) (pad-full 4 f l (omega arith))
 
 pub state-wide : (number : ℕ) (held : List Held) → ((h : Held) → List·Memᴰ h held → length (h .disjunct) ≤ 4)
     → stateOf (record { number = number; held = map wideHeld held }) ≡ stateOf (record { number = number; held = held })
 unfolding stateOf wideHeld
 state-wide number held few =
-    let places : ℕ → List ℕ → List Disjunct → State = λ k p l. record { number = number; count = k; positions = pad 128 0 p; pool = pad 128 (disjunctOf []) l } in
+    let places : ℕ → List ℕ → List Disjunct → State =
+    λ k p l. record { number = number; count = k; positions = pad 128 0 p; pool = pad 128 (disjunctOf []) l } in
     let positions = map (λ h. h .position) (map wideHeld held) in
     let pool = map (λ h. disjunctOf (h .disjunct)) (map wideHeld held) in
     ap (λ k. places k positions pool) (length-map held wideHeld)

@@ -1,16 +1,17 @@
 -- What is coded is read back; the names as `find` looks through them; and a table stays ready as names are added.
 use mathlib.Core.Path.{_≡_, refl, sym, ap, ap₂, _∙_}
-use mathlib.Core.Bool.{Bool, true}
+use mathlib.Core.Bool.{true}
 use mathlib.Core.List.{List, [], _∷_, _++_, map, map-append, append-nil, append-assoc}
-use Prim.Native.Nat.{ℕ, suc, _+_, _-_, _≤_, _<_}
+use Prim.Native.Nat.{ℕ, _+_, _-_, _≤_, _<_}
 use native.Mathlib.Omega.{arith}
 use lib.Dec.{leb}
 use borrow.Author.Tests.{le-leb}
-use lib.ListN.{length, take, drop, set, replicate, length-append, length-take, length-drop, length-replicate, length-map}
-use lib.Seq.{take-all, take-at, drop-at, set-at, take-add}
+use lib.ListN.{length, take, drop, set, length-append, length-take, length-drop, length-replicate, length-map}
+use lib.Seq.{take-all, take-at, drop-at, take-add}
 use Rattle.laws.specs.Lists.{all}
 use Rattle.laws.specs.Parts.{pad}
-use Rattle.laws.proofs.Lists.{all-append, and-true-split}
+use Rattle.laws.proofs.Lists.{all-append, all-more, and-true-split}
+use Rattle.laws.proofs.Parts.{pad-more}
 use Rattle.meaning.specs.Events as Events
 use Rattle.meaning.specs.Meaning.{noSymbol}
 use Rattle.meaning.specs.Book.{soundPlace}
@@ -23,13 +24,11 @@ use Rattle.table.specs.Tables.{placeOf, symbolOf, nameOf, tableOf, viewP
 
 module _ {A B : Type 0} (n : ℕ) (d : B) (f : A → B) where
   -- one more element is written where the padding begins
-  pad-more : (l : List A) (x : A) (k : ℕ) → length l ≡ k → k < n → set (pad n d (map f l)) k (f x) ≡ pad n d (map f (l ++ (x ∷ [])))
-  unfolding pad
-  pad-more l x k e h =
-      let j = n - suc k in
-      let a : n - length (map f l) ≡ suc j = rw length-map (omega arith) in
-      let b : n - length (map f l ++ (f x ∷ [])) ≡ j = rw (length-append, length-map) (omega arith) in
-      rw (map-append, a, set-at (map f l) d (replicate j d) (f x) k (length-map l f ∙ e), b, append-assoc)
+  coded-more : (l : List A) (x : A) (k : ℕ) → length l ≡ k → k < n → set (pad n d (map f l)) k (f x) ≡ pad n d (map f (l ++ (x ∷ [])))
+  coded-more l x k e h =
+      let m : length (map f l) ≡ k = length-map l f ∙ e in
+      ap (λ j. set (pad n d (map f l)) j (f x)) (sym m) ∙ pad-more n d (map f l) (f x) (omega arith)
+      ∙ ap (pad n d) (sym (map-append f l (x ∷ [])))
 
   module _ (g : B → A) (back : (x : A) → g (f x) ≡ x) where
     map-back : (l : List A) → map g (map f l) ≡ l
@@ -64,7 +63,7 @@ pub symbol-more : (y : Events.Symbol) (p : Events.Place) → length (y .places) 
     ≡ symbolOf (record { kind = y .kind; places = y .places ++ (p ∷ []) })
 unfolding symbolOf
 symbol-more y p h =
-    rw (pad-more 4 (placeOf Events.Place.ignored) placeOf (y .places) p (length (y .places)) refl h, length-append)
+    rw (coded-more 4 (placeOf Events.Place.ignored) placeOf (y .places) p (length (y .places)) refl h, length-append)
 
 -- a plain table within the limits
 pub record Fits (t : Lines.Table) : Type 0 where
@@ -129,9 +128,6 @@ symbols-length : (t : Table) → t .variables + t .count ≤ length (t .names) �
 unfolding viewTable
 symbols-length t h = simp (length-map, length-take, length-drop) (omega arith)
 
-all-more : {A : Type 0} (f : A → Bool) (l : List A) (x : A) → all f l ≡ true → f x ≡ true → all f (l ++ (x ∷ [])) ≡ true
-all-more f l x h k = rw (all-append, h, k)
-
 -- a table that codes the plain table v, part by part
 record Parts (t : Table) (v : Lines.Table) : Type 0 where
   pub variables : t .variables ≡ length (v .variables)
@@ -170,7 +166,7 @@ ready-variable s t r c h x i =
     let a = ready-parts s t r in
     let k : v .symbols ≡ [] = sym (take-all 0 (v .symbols) (omega arith)) in
     let j : v .table ≡ [] = sym (take-all 0 (v .table) (omega arith)) in
-    let p = pad-more 20 noName nameOf (v .variables) x (t .variables) (sym (a .variables)) (omega arith) in
+    let p = coded-more 20 noName nameOf (v .variables) x (t .variables) (sym (a .variables)) (omega arith) in
     let w : Lines.Table = record { variables = v .variables ++ (x ∷ []); symbols = []; table = [] } in
     let g : Fits w = record { fewVariables = rw length-append (omega arith); fewSymbols = omega arith; paired = refl; fewPlaces = refl } in
     let o : all (inside (length s)) (v .variables) ≡ true = and-true-split _ _ (sym (all-append _ (v .variables) (v .symbols)) ∙ r .inText) .0 in
@@ -189,8 +185,9 @@ ready-symbol s t r c x i y l d =
     let v = viewTable t in
     let f = ready-fits s t r in
     let a = ready-parts s t r in
-    let p = pad-more 20 noName nameOf (v .variables ++ v .symbols) x (t .variables + t .count) (rw length-append (omega arith)) (omega arith) in
-    let q = pad-more 16 (symbolOf noSymbol) symbolOf (v .table) y (t .count) (sym (a .count)) c in
+    let many : length (v .variables ++ v .symbols) ≡ t .variables + t .count = rw length-append (omega arith) in
+    let p = coded-more 20 noName nameOf (v .variables ++ v .symbols) x (t .variables + t .count) many (omega arith) in
+    let q = coded-more 16 (symbolOf noSymbol) symbolOf (v .table) y (t .count) (sym (a .count)) c in
     let w : Lines.Table = record { variables = v .variables; symbols = v .symbols ++ (x ∷ []); table = v .table ++ (y ∷ []) } in
     let g : Fits w =
     record {

@@ -3,19 +3,10 @@ use mathlib.Core.Path.{_≡_, sym, ap, _∙_}
 use mathlib.Core.Bool.{or-assoc}
 use mathlib.Core.List.{List, [], _∷_}
 use Prim.Native.Nat.{ℕ}
-use lib.Bits.{or-zero-l, or-zero-r}
 use Rattle.laws.specs.Bits.{bit, join, single}
-use Rattle.laws.proofs.Bits.{bit-join, bits-equal}
+use Rattle.laws.proofs.Bits.{bit-join, bits-equal, join-none, none-join}
 use Rattle.meaning.specs.Events.{Place, ignored, names}
 use Rattle.meaning.specs.Book.{boundIn}
-
-pub join-none : (a : ℕ) → join a 0 ≡ a
-unfolding join
-join-none a = or-zero-r a
-
-pub none-join : (a : ℕ) → join 0 a ≡ a
-unfolding join
-none-join a = or-zero-l a
 
 join-assoc : (a b c : ℕ) → join (join a b) c ≡ join a (join b c)
 join-assoc a b c =

@@ -1,6 +1,4 @@
-// Arrays read and written with the index tested (0 where there is nothing, no change where there is no place), and a generator of
-// numbers that look random from a fixed start.
-ghost use Prim.Native.Nat.{_<_};
+// Arrays read and written with the index tested (0 where there is nothing, no change where there is no place), and small numbers drawn.
 
 pub fn get(a: &[u32], i: usize) -> u32 {
     if i < a.len() { a[i] } else { 0 }
@@ -40,26 +38,9 @@ pub fn word(a: &[u8], i: usize) -> u32 {
     0
 }
 
-// The next state of the generator: a linear congruence with modulus 2^31 - 1.
-pub fn next(x: u64) -> u64
-    ensures { λ r. ⌜ r < 2147483647 ⌝ }
-{
-    x % 2147483647 * 48271 % 2147483647
-}
-
-// A number below n; k tells several draws of one state apart.
-pub fn below(x: u64, k: u64, n: u64) -> u64 {
-    if n == 0 {
-        return 0;
-    }
-    let y = next(x % 2147483647 + k % 65536 * 26544 + 1);
-    let z = y % 46337 * (y / 46337 + 7) + y;
-    next(z) / 8 % n
-}
-
-// The same as a small number.
+// A number below n, drawn as a small one; k tells several draws of one state apart.
 pub fn draw(x: u64, k: u64, n: u64) -> u32 {
-    (below(x, k, n) % 65536) as u32
+    (draws::below(x, k, n) % 65536) as u32
 }
 
 // 1 where bit s is set.

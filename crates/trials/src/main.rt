@@ -177,7 +177,7 @@ fn answered(s: Score, answer: usize, rows: usize) -> Score {
 fn size_of(seed: u64, i: u64) -> usize
     ensures { λ r. ⌜ r ≤ 20 ⌝ }
 {
-    if cells::below(seed, 20000 + i % 1000, 50) == 0 {
+    if draws::below(seed, 20000 + i % 1000, 50) == 0 {
         return 19;
     }
     20
@@ -185,14 +185,14 @@ fn size_of(seed: u64, i: u64) -> usize
 
 // Now and then a place near the end of the buffer.
 fn place_of(seed: u64, i: u64) -> usize {
-    let x = cells::below(seed, 21000 + i % 1000, 20);
+    let x = draws::below(seed, 21000 + i % 1000, 20);
     if x == 0 {
         return 4090;
     }
     if x == 1 {
         return 4097;
     }
-    cells::below(seed, 22000 + i % 1000, 1000) as usize
+    draws::below(seed, 22000 + i % 1000, 1000) as usize
 }
 
 // An event call with the first `size` bytes of a record.
@@ -364,7 +364,7 @@ fn shuffled(
 ) {
     let mut k: u64 = 0;
     while k < 60 {
-        let i = cells::below(seed, 30000 + k, 15) as usize;
+        let i = draws::below(seed, 30000 + k, 15) as usize;
         exchange(symbols, count, trace, f, order, n, i);
         k += 1;
     }
@@ -528,7 +528,7 @@ fn judge(
     let mut s = score;
     s.books = up(s.books);
     s = trace(seed, b, f, symbols, count, nodes, size, s);
-    trace(cells::next(seed) + 77, b, f, symbols, count, nodes, size, s)
+    trace(draws::next(seed) + 77, b, f, symbols, count, nodes, size, s)
 }
 
 // One random book; every eighth is one in which exclusions gather.
@@ -577,7 +577,7 @@ fn judged(score: Score) -> Score {
     let mut seed: u64 = 20261115;
     let mut i: u32 = 0;
     while i < 4000 {
-        seed = cells::next(seed);
+        seed = draws::next(seed);
         s = one(seed, s);
         i += 1;
     }

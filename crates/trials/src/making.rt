@@ -21,8 +21,8 @@ fn node(seed: u64, symbols: usize, nodes: &mut [u32], k: usize) {
     }
     cells::put(nodes, k % 12 * 3, kind);
     let last = k as u64;
-    let a = earlier(last, cells::below(seed, x + 2, 2));
-    let b = cells::below(seed, x + 3, last);
+    let a = earlier(last, draws::below(seed, x + 2, 2));
+    let b = draws::below(seed, x + 3, last);
     cells::put(nodes, k % 12 * 3 + 1, (a % 12) as u32);
     cells::put(nodes, k % 12 * 3 + 2, (b % 12) as u32);
 }

@@ -1,25 +1,22 @@
 -- What is held as positions, masks and disjuncts side by side: labels, sources and step sets are picked from the disjuncts.
 -- For the crates step, skip, advance and collect, which hold them so.
-use mathlib.Core.Path.{_≡_, refl, sym, ap, _∙_}
+use mathlib.Core.Path.{_≡_, refl, ap, _∙_}
 use mathlib.Core.Bool.{Bool, true, false, cond}
 use mathlib.Core.List.{List, [], _∷_, map, List·Memᴰ, List·Memᴰ·head, List·Memᴰ·tail, List·Memᴰ·not-nil, List·Memᴰ·cases-cons}
 use mathlib.Core.Logic.{⊎-elim}
-use Prim.Native.Nat.{ℕ, suc, _≤_}
+use Prim.Native.Nat.{ℕ, zero, suc, _≤_, _<_}
 use native.Mathlib.Omega.{arith}
 use lib.Dec.{eqb}
-use lib.ListN.{length}
-use borrow.Author.Tests.{eqb-true, eq-eqb}
+use lib.ListN.{length, drop, getD}
+use lib.Seq.{drop-nil}
 use Rattle.laws.specs.Bits.{bit}
 use Rattle.laws.specs.Lists.{keep}
-use Rattle.laws.proofs.Lists.{same-test}
+use Rattle.laws.proofs.Lists.{eqb-swap}
 use Rattle.meaning.specs.Events.{Event, constraintOf}
 use Rattle.meaning.specs.Book.{Book, beginsAt, followers, symbolOf}
 use Rattle.meaning.specs.Labels.{Disjunct, Held, heldAt, labelOf, sources, stepSet}
 use Rattle.work.specs.Wide.{wideBook}
 use Rattle.work.specs.Bounded.{pick, heldOf, withStart, metList, metSet}
-
-eqb-swap : (a b : ℕ) → eqb a b ≡ eqb b a
-eqb-swap a b = same-test (eqb a b) (eqb b a) (λ h. eq-eqb b a (sym (eqb-true a b h))) (λ h. eq-eqb a b (sym (eqb-true b a h)))
 
 module _ {A B : Type 0} where
   -- a picked element stands in the list
@@ -51,6 +48,21 @@ pub pick-map : {A B C : Type 0} (f : B → Bool) (g : A → B) (k : List A) (l :
 pick-map f g [] l = refl
 pick-map f g (x ∷ k) [] = refl
 pick-map f g (x ∷ k) (y ∷ l) = rw (pick-map f g k l)
+
+-- what is picked from number i on, by the first of it; a key that is not there is one that does not pass
+pub pick-next : {B : Type 0} (f : ℕ → Bool) → f 0 ≡ false → (i : ℕ) (k : List ℕ) (l : List B) (d : B) → i < length l
+    → let r = pick f (drop (suc i) k) (drop (suc i) l) in pick f (drop i k) (drop i l) ≡ cond (f (getD k i 0)) (getD l i d ∷ r) r
+pick-next f z i k [] d h = absurd (omega arith)
+pick-next f z i [] (y ∷ l) d h = rw (drop-nil i, z)
+pick-next f z zero (x ∷ k) (y ∷ l) d h = refl
+pick-next f z (suc i) (x ∷ k) (y ∷ l) d h = pick-next f z i k l d (omega arith)
+
+-- as much is held as there are positions, and disjuncts
+pub held-of-length : (ps : List ℕ) (l : List Disjunct) → length ps ≡ length l → length (heldOf ps l) ≡ length l
+held-of-length [] [] h = refl
+held-of-length [] (D ∷ l) h = h
+held-of-length (p ∷ ps) [] h = refl
+held-of-length (p ∷ ps) (D ∷ l) h = ap suc (held-of-length ps l (omega arith))
 
 -- the disjuncts of what is held
 abbrev disjuncts : List Held → List Disjunct

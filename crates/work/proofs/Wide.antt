@@ -4,29 +4,28 @@
 use mathlib.Core.Path.{_≡_, refl, sym, ap, ap₂, _∙_}
 use mathlib.Core.Bool.{Bool, true, false, cond, _&&_, and-eq-true-iff}
 use mathlib.Core.List.{List, [], _∷_, _++_, map, map-append, map-map, List·Memᴰ}
-use mathlib.Core.Logic.{⊎-elim}
-use Prim.Native.Nat.{ℕ, zero, suc, _-_, _≤_, compare}
+use Prim.Native.Nat.{ℕ, _-_, _≤_, compare}
 use native.Mathlib.Omega.{arith}
 use lib.Dec.{eqb, leb}
-use lib.ListN.{length, take, getD, length-map, length-replicate}
+use lib.ListN.{length, take, getD, length-map}
 use borrow.Author.Tests.{leb-true, eqb-true, eq-eqb}
 use Rattle.laws.specs.Lists.{any, all, keep, gather}
 use Rattle.laws.specs.Order.{andThen}
 use Rattle.laws.specs.Sets.{insertAll, setOf}
-use Rattle.laws.proofs.Lists.{and-true-split, mem-keep, all-of, any-agree, all-agree, keep-agree, any-map, all-map, any-keep, all-at, mem-map, mem-gather, mem-picked}
+use Rattle.laws.proofs.Lists.{and-true-split, any-agree, any-map, any-keep, all-agree, all-map, all-at, all-of, keep-agree}
+use Rattle.laws.proofs.Lists.{mem-keep, mem-map, mem-gather, mem-picked}
 use Rattle.laws.proofs.Maps.{map-agree, gather-agree, keep-map, gather-map, map-gather, ascending-map, insertAll-map, setOf-map}
-use Rattle.meaning.specs.Events.{Symbol, Event, Constraint, Valuation, constraintOf}
-use Rattle.meaning.specs.Meaning.{noSymbol}
-use Rattle.meaning.specs.Book.{Book, soundPlace, soundSymbol, soundBook, positions, beginsAt, endsAt, followsAt, goesOn, symbolOf}
-use Rattle.meaning.specs.Labels.{free, Disjunct, freeDisjunct, isFree, compareDisjuncts, meets, met, skipOne, skipBy, skipThrough}
+use Rattle.meaning.specs.Events.{Event, Constraint, Valuation, constraintOf}
+use Rattle.meaning.specs.Book.{Book, soundSymbol, soundBook, positions, beginsAt, endsAt, followsAt, goesOn, symbolOf}
+use Rattle.meaning.specs.Labels.{Disjunct, freeDisjunct, isFree, compareDisjuncts, meets, met, skipOne, skipBy, skipThrough}
 use Rattle.meaning.specs.Labels.{Held, heldAt, compareHeld, labelOf, sources, stepSet, skipSet, newLabel, newHeld}
 use Rattle.meaning.specs.Room.{heldLimit, fewExclusions, setRoom, skipRoom, room}
 use Rattle.meaning.specs.Rows.{compareValuations, valuationOf, rows, leavesFree}
 use Rattle.meaning.specs.Sound.{soundEntry, soundPiece, soundHeld}
 use Rattle.meaning.proofs.Orders.{disjunct-order, held-order, valuation-order}
-use Rattle.meaning.proofs.Members.{skipBy-member, stepSet-member}
-use Rattle.meaning.proofs.Stems.{label-held, source-cases}
-use Rattle.meaning.proofs.Fits.{inRange, constraint-inRange, met-length, skip-length}
+use Rattle.meaning.proofs.Step.{Long, skipOne-long, skipBy-long, numbered-inRange, symbols-inRange}
+use Rattle.meaning.proofs.Step.{label-long, sources-long, stepSet-long, skipSet-long}
+use Rattle.meaning.proofs.Fits.{inRange, met-length}
 use Rattle.work.specs.Wide.{wide, wideHeld, wideValuation, wideBook}
 use Rattle.work.specs.Bounded.{metList, freeIn, freeRows}
 use Rattle.work.proofs.WideDisjuncts.{wide-length, wide-take, wide-compare, wideValuation-compare, wide-few, wide-entries, wide-free-disjunct}
@@ -39,14 +38,10 @@ setRoom-wide l =
 
 -- sets of disjuncts over n variables
 module _ (n : ℕ) where
-  -- each has n entries
-  abbrev Long : List Disjunct → Type 0
-  Long l = (D : Disjunct) → List·Memᴰ D l → length D ≡ n
-
   compare-wide : (D E : Disjunct) → length D ≡ n → length E ≡ n → compareDisjuncts (wide D) (wide E) ≡ compareDisjuncts D E
   compare-wide D E h k = wide-compare D E (h ∙ sym k)
 
-  metList-wide : (c : Constraint) (l : List Disjunct) → inRange n c ≡ true → Long l → metList c (map wide l) ≡ map wide (metList c l)
+  metList-wide : (c : Constraint) (l : List Disjunct) → inRange n c ≡ true → Long n l → metList c (map wide l) ≡ map wide (metList c l)
   unfolding metList
   metList-wide c l k h =
       ap (map (λ D. met D c)) (keep-map (λ D. meets D c) wide l ∙ ap (map wide) (keep-agree _ (λ D. meets D c) l (λ D m. wide-meets n D c (h D m) k)))
@@ -54,14 +49,14 @@ module _ (n : ℕ) where
       ∙ map-agree _ (λ D. wide (met D c)) (keep (λ D. meets D c) l) (λ D m. wide-met n D c (h D (mem-keep (λ E. meets E c) D l .0 m .0)) k)
       ∙ sym (map-map wide (λ D. met D c) (keep (λ D. meets D c) l))
 
-  metList-long : (c : Constraint) (l : List Disjunct) → Long l → Long (metList c l)
+  metList-long : (c : Constraint) (l : List Disjunct) → Long n l → Long n (metList c l)
   unfolding metList
   metList-long c l h D m =
       let r = mem-picked (λ E. meets E c) (λ E. met E c) D l .0 m in
       ap length (r .3) ∙ met-length (r .0) c ∙ h (r .0) (r .1)
 
   -- the first n variables of a disjunct made wide are its own
-  freeIn-wide : (c : Constraint) (l : List Disjunct) → inRange n c ≡ true → Long l
+  freeIn-wide : (c : Constraint) (l : List Disjunct) → inRange n c ≡ true → Long n l
       → freeIn n c (map wide l) ≡ any (λ D. meets D c && any isFree (met D c)) l
   unfolding freeIn metList
   freeIn-wide c l k h =
@@ -69,19 +64,7 @@ module _ (n : ℕ) where
       ∙ any-agree _ (any isFree) (metList c l) (λ D m. ap (any isFree) (wide-take n D (metList-long c l h D m)))
       ∙ any-map (any isFree) (λ D. met D c) (keep (λ D. meets D c) l) ∙ any-keep (λ D. any isFree (met D c)) (λ D. meets D c) l
 
-  skipOne-long : (c : Constraint) (D E : Disjunct) → length D ≡ n → List·Memᴰ E (skipOne c D) → length E ≡ n
-  skipOne-long c D E h m = eqb-true (length E) n (all-at (λ F. eqb (length F) n) (skip-length c D n h) m)
-
-  skipBy-long : (c : Constraint) (l : List Disjunct) → Long l → Long (skipBy c l)
-  skipBy-long c l h D m =
-      let r = skipBy-member c l D .0 m in
-      skipOne-long c (r .0) D (h (r .0) (r .1)) (r .2)
-
-  skipThrough-long : (cs : List Constraint) (l : List Disjunct) → Long l → Long (skipThrough cs l)
-  skipThrough-long [] l h = h
-  skipThrough-long (c ∷ cs) l h = skipThrough-long cs (skipBy c l) (skipBy-long c l h)
-
-  skipBy-wide : (c : Constraint) (l : List Disjunct) → inRange n c ≡ true → Long l → skipBy c (map wide l) ≡ map wide (skipBy c l)
+  skipBy-wide : (c : Constraint) (l : List Disjunct) → inRange n c ≡ true → Long n l → skipBy c (map wide l) ≡ map wide (skipBy c l)
   unfolding skipBy
   skipBy-wide c l k h =
       ap (setOf compareDisjuncts)
@@ -89,32 +72,22 @@ module _ (n : ℕ) where
       ∙ sym (map-gather wide (skipOne c) l))
       ∙ setOf-map compareDisjuncts wide (λ D. length D ≡ n) disjunct-order compare-wide (gather (skipOne c) l) λ D m.
       let r = mem-gather (skipOne c) D l .0 m in
-      skipOne-long c (r .0) D (h (r .0) (r .1)) (r .2)
+      skipOne-long n c (r .0) D (h (r .0) (r .1)) (r .2)
 
-  skipThrough-wide : (cs : List Constraint) (l : List Disjunct) → all (inRange n) cs ≡ true → Long l
+  skipThrough-wide : (cs : List Constraint) (l : List Disjunct) → all (inRange n) cs ≡ true → Long n l
       → skipThrough cs (map wide l) ≡ map wide (skipThrough cs l)
   skipThrough-wide [] l k h = refl
   skipThrough-wide (c ∷ cs) l k h =
       let s = and-true-split (inRange n c) (all (inRange n) cs) k in
-      ap (skipThrough cs) (skipBy-wide c l (s .0) h) ∙ skipThrough-wide cs (skipBy c l) (s .1) (skipBy-long c l h)
+      ap (skipThrough cs) (skipBy-wide c l (s .0) h) ∙ skipThrough-wide cs (skipBy c l) (s .1) (skipBy-long n c l h)
 
-  skipRoom-wide : (cs : List Constraint) (l : List Disjunct) → all (inRange n) cs ≡ true → Long l → skipRoom cs (map wide l) ≡ skipRoom cs l
+  skipRoom-wide : (cs : List Constraint) (l : List Disjunct) → all (inRange n) cs ≡ true → Long n l
+      → skipRoom cs (map wide l) ≡ skipRoom cs l
   skipRoom-wide [] l k h = refl
   skipRoom-wide (c ∷ cs) l k h =
       let s = and-true-split (inRange n c) (all (inRange n) cs) k in
       ap (λ r. setRoom r && skipRoom cs r) (skipBy-wide c l (s .0) h)
-      ∙ ap₂ _&&_ (setRoom-wide (skipBy c l)) (skipRoom-wide cs (skipBy c l) (s .1) (skipBy-long c l h))
-
-symbol-inRange : (n : ℕ) (s : Symbol) (e : Event) → soundSymbol n s ≡ true → inRange n (constraintOf s e) ≡ true
-unfolding soundSymbol
-symbol-inRange n s e h =
-    constraint-inRange n s e (and-true-split (leb 1 (s .kind) && leb (s .kind) 255 && leb (length (s .places)) 4) (all (soundPlace n) (s .places)) h .1)
-
--- a symbol by its number; out of range it is one that has no places
-numbered-inRange : (n : ℕ) (l : List Symbol) (i : ℕ) (e : Event) → all (soundSymbol n) l ≡ true → inRange n (constraintOf (getD l i noSymbol) e) ≡ true
-numbered-inRange n [] i e h = constraint-inRange n noSymbol e refl
-numbered-inRange n (s ∷ l) zero e h = symbol-inRange n s e (and-true-split (soundSymbol n s) (all (soundSymbol n) l) h .0)
-numbered-inRange n (s ∷ l) (suc i) e h = numbered-inRange n l i e (and-true-split (soundSymbol n s) (all (soundSymbol n) l) h .1)
+      ∙ ap₂ _&&_ (setRoom-wide (skipBy c l)) (skipRoom-wide cs (skipBy c l) (s .1) (skipBy-long n c l h))
 
 book-parts : (b : Book) → soundBook b ≡ true → (b .variables ≤ 4) × (all (soundSymbol (b .variables)) (b .symbols) ≡ true)
 unfolding soundBook
@@ -167,14 +140,6 @@ module _ (b : Book) (sb : soundBook b ≡ true) (held : List Held) (sh : soundHe
       ap₂ _++_ (start-wide (b .variables) (book-parts b sb .0) (beginsAt b q)) (picked-wide (λ p. followsAt b p q) held)
       ∙ sym (map-append wide (cond (beginsAt b q) (freeDisjunct (b .variables) ∷ []) []) _)
 
-  label-long : (p : ℕ) → Long (b .variables) (labelOf held p)
-  label-long p D m = let r = label-held held p m in ap length (r .3) ∙ held-long (r .0) (r .1)
-
-  sources-long : (q : ℕ) → Long (b .variables) (sources b held q)
-  sources-long q D m =
-      ⊎-elim (λ s. ap length (s .1) ∙ length-replicate (b .variables) (free [])) (λ s. ap length (s .3) ∙ held-long (s .0) (s .1))
-      (source-cases b held q m)
-
   pub wide-sound : soundHeld (wideBook b) (map wideHeld held) ≡ true
   unfolding soundHeld
   wide-sound =
@@ -188,9 +153,7 @@ module _ (b : Book) (sb : soundBook b ≡ true) (held : List Held) (sh : soundHe
     constraint-range q = numbered-inRange (b .variables) (b .symbols) (getD (b .occurrences) (q - 1) 0) e (book-parts b sb .1)
 
     constraints-range : all (inRange (b .variables)) (map (λ s. constraintOf s e) (b .symbols)) ≡ true
-    constraints-range =
-        all-map (inRange (b .variables)) (λ s. constraintOf s e) (b .symbols)
-        ∙ all-of _ (b .symbols) (λ s m. symbol-inRange (b .variables) s e (all-at _ (book-parts b sb .1) m))
+    constraints-range = symbols-inRange (b .variables) (b .symbols) e (book-parts b sb .1)
 
     step-wide : (q : ℕ) → stepSet (wideBook b) (map wideHeld held) e q ≡ map wide (stepSet b held e q)
     unfolding stepSet wideBook metList
@@ -198,24 +161,16 @@ module _ (b : Book) (sb : soundBook b ≡ true) (held : List Held) (sh : soundHe
         let c = constraintOf (symbolOf b q) e in
         let n = b .variables in
         ap (λ l. setOf compareDisjuncts (metList c l)) (sources-wide q)
-        ∙ ap (setOf compareDisjuncts) (metList-wide n c (sources b held q) (constraint-range q) (sources-long q))
+        ∙ ap (setOf compareDisjuncts) (metList-wide n c (sources b held q) (constraint-range q) (sources-long b held held-long q))
         ∙ setOf-map compareDisjuncts wide (λ D. length D ≡ n) disjunct-order (compare-wide n) (metList c (sources b held q))
-        (metList-long n c (sources b held q) (sources-long q))
-
-    step-long : (q : ℕ) → Long (b .variables) (stepSet b held e q)
-    step-long q D m =
-        let r = stepSet-member b held e q D .0 m in
-        ap length (r .3) ∙ met-length (r .0) (constraintOf (symbolOf b q) e) ∙ sources-long q (r .0) (r .1)
+        (metList-long n c (sources b held q) (sources-long b held held-long q))
 
     skip-wide : (p : ℕ) → skipSet (wideBook b) (map wideHeld held) e p ≡ map wide (skipSet b held e p)
     unfolding skipSet wideBook
     skip-wide p =
         let cs = map (λ s. constraintOf s e) (b .symbols) in
-        ap (skipThrough cs) (label-wide held p) ∙ skipThrough-wide (b .variables) cs (labelOf held p) constraints-range (label-long p)
-
-    skip-long : (p : ℕ) → Long (b .variables) (skipSet b held e p)
-    unfolding skipSet
-    skip-long p = skipThrough-long (b .variables) (map (λ s. constraintOf s e) (b .symbols)) (labelOf held p) (label-long p)
+        ap (skipThrough cs) (label-wide held p)
+        ∙ skipThrough-wide (b .variables) cs (labelOf held p) constraints-range (label-long b held held-long p)
 
     new-wide : (p : ℕ) → newLabel (wideBook b) (map wideHeld held) e p ≡ map wide (newLabel b held e p)
     unfolding newLabel wideBook
@@ -225,7 +180,7 @@ module _ (b : Book) (sb : soundBook b ≡ true) (held : List Held) (sh : soundHe
             ≡ map wide (cond t (insertAll compareDisjuncts (skipSet b held e p) (stepSet b held e p)) [])
         go true =
             insertAll-map compareDisjuncts wide (λ D. length D ≡ b .variables) disjunct-order (compare-wide (b .variables))
-            (skipSet b held e p) (stepSet b held e p) (skip-long p) (step-long p)
+            (skipSet b held e p) (stepSet b held e p) (skipSet-long b held held-long e p) (stepSet-long b held held-long e p)
         go false = refl
 
     pub wide-held : newHeld (wideBook b) (map wideHeld held) e ≡ map wideHeld (newHeld b held e)
@@ -243,7 +198,8 @@ module _ (b : Book) (sb : soundBook b ≡ true) (held : List Held) (sh : soundHe
         ap₂ _&&_ (ap₂ _&&_
         (all-agree _ _ (positions b) (λ q m. ap (λ k. leb k heldLimit) (ap length (step-wide q) ∙ length-map (stepSet b held e q) wide)))
         (all-agree _ _ (positions b)
-        (λ p m. ap (skipRoom cs) (label-wide held p) ∙ skipRoom-wide (b .variables) cs (labelOf held p) constraints-range (label-long p))))
+        (λ p m. ap (skipRoom cs) (label-wide held p)
+        ∙ skipRoom-wide (b .variables) cs (labelOf held p) constraints-range (label-long b held held-long p))))
         (ap (λ k. leb k heldLimit) (ap length wide-held ∙ length-map (newHeld b held e) wideHeld))
 
     step-rows : (q : ℕ) → map valuationOf (stepSet (wideBook b) (map wideHeld held) e q) ≡ map wideValuation (map valuationOf (stepSet b held e q))
@@ -262,11 +218,12 @@ module _ (b : Book) (sb : soundBook b ≡ true) (held : List Held) (sh : soundHe
         (gather each qs) λ σ m.
         let r = mem-gather each σ qs .0 m in
         let s = mem-map valuationOf σ (stepSet b held e (r .0)) .0 (r .2) in
-        ap length (s .2) ∙ length-map (s .0) _ ∙ step-long (r .0) (s .0) (s .1)
+        ap length (s .2) ∙ length-map (s .0) _ ∙ stepSet-long b held held-long e (r .0) (s .0) (s .1)
 
     pub wide-free : freeRows (b .variables) (wideBook b) (map wideHeld held) e ≡ leavesFree b held e
     unfolding freeRows leavesFree wideBook
     wide-free =
         any-agree _ _ (keep (endsAt b) (positions b)) λ q m.
         let c = constraintOf (symbolOf b q) e in
-        ap (freeIn (b .variables) c) (sources-wide q) ∙ freeIn-wide (b .variables) c (sources b held q) (constraint-range q) (sources-long q)
+        ap (freeIn (b .variables) c) (sources-wide q)
+        ∙ freeIn-wide (b .variables) c (sources b held q) (constraint-range q) (sources-long b held held-long q)

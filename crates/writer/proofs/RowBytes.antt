@@ -3,7 +3,7 @@
 use mathlib.Core.Path.{_≡_, refl, sym, ap, _∙_}
 use mathlib.Core.Bool.{true}
 use mathlib.Core.List.{List, [], _∷_, _++_, append-assoc, append-nil, List·Memᴰ, List·Memᴰ·head, List·Memᴰ·tail}
-use Prim.Native.Nat.{ℕ, _+_, _*_, _-_, _≤_, _<_}
+use Prim.Native.Nat.{ℕ, _+_, _*_, _≤_, _<_}
 use native.Mathlib.Numerals.{add-one}
 use native.Mathlib.Omega.{arith}
 use borrow.Author.Tests.{leb-true}
@@ -13,7 +13,8 @@ use lib.Seq.{take-suc}
 use Rattle.laws.specs.Lists.{all, gather}
 use Rattle.laws.specs.Parts.{pad}
 use Rattle.laws.proofs.Lists.{all-at}
-use Rattle.laws.proofs.Parts.{pad-length}
+use Rattle.laws.proofs.Parts.{pad-length, pad-full}
+use Rattle.laws.proofs.Places.{by-index}
 use Rattle.meaning.specs.Events.{Valuation}
 use Rattle.writer.specs.RowBytes.{wordBytes, rowBytes}
 
@@ -34,11 +35,6 @@ gather-next g l i d h =
     ap (gather g) (ap (λ k. take k l) (add-one i) ∙ take-suc l i d h) ∙ gather-append g (take i l) (getD l i d ∷ [])
     ∙ ap (λ r. gather g (take i l) ++ r) (append-nil (g (getD l i d)))
 
--- a list of n elements is padded to itself
-pad-full : {A : Type 0} (n : ℕ) (d : A) (l : List A) → length l ≡ n → pad n d l ≡ l
-unfolding pad
-pad-full n d l h = let e : n - length l ≡ 0 = omega arith in rw e (append-nil l)
-
 word-length : (x : ℕ) → length (wordBytes x) ≡ 4
 unfolding wordBytes
 word-length x = refl
@@ -50,7 +46,7 @@ row-length number variables σ h =
 
 pub row-wide : (number variables : ℕ) (σ : Valuation) → length σ ≤ 4 → rowBytes number variables (pad 4 0 σ) ≡ rowBytes number variables σ
 unfolding rowBytes
-row-wide number variables σ h = rw (pad-full 4 0 (pad 4 0 σ) (pad-length 4 0 σ h))
+row-wide number variables σ h = rw (pad-full 4 0 (pad 4 0 σ) (omega (arith, pad-length 4 0 σ h)))
 
 pub rows-length : (number variables : ℕ) (l : List Valuation) → all (λ σ. leb (length σ) 4) l ≡ true
     → length (gather (rowBytes number variables) l) ≡ 24 * length l
@@ -63,9 +59,4 @@ rows-length number variables l h =
 
 -- the values of a row of four words, written out
 pub four-words : (x : Valuation) → length x ≡ 4 → pad 4 0 x ≡ getD x 0 0 ∷ getD x 1 0 ∷ getD x 2 0 ∷ getD x 3 0 ∷ []
-four-words (a ∷ b ∷ c ∷ d ∷ []) h = pad-full 4 0 (a ∷ b ∷ c ∷ d ∷ []) h
-four-words [] h = absurd (omega arith)
-four-words (a ∷ []) h = absurd (omega arith)
-four-words (a ∷ b ∷ []) h = absurd (omega arith)
-four-words (a ∷ b ∷ c ∷ []) h = absurd (omega arith)
-four-words (a ∷ b ∷ c ∷ d ∷ e ∷ x) h = absurd (omega arith)
+four-words x h = pad-full 4 0 x (omega arith) ∙ by-index 0 x 4 h

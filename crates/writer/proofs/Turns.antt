@@ -1,13 +1,13 @@
 -- A turn of the loop of put_rows: the bytes of the next valuation right behind those of the first i.
-use mathlib.Core.Path.{_≡_, sym, ap, ap₂, subst, _∙_}
-use mathlib.Core.List.{List, [], List·Memᴰ, Memᴰ·append-left}
+use mathlib.Core.Path.{_≡_, sym, ap, ap₂, _∙_}
+use mathlib.Core.List.{List, [], List·Memᴰ}
 use Prim.Native.Nat.{ℕ, _+_, _*_, _≤_, _<_}
 use native.Mathlib.Omega.{arith}
-use lib.ListN.{length, take, drop, getD, take-append-drop}
+use lib.ListN.{length, take, getD}
 use lib.Seq.{length-take-le}
 use Rattle.laws.specs.Lists.{gather}
 use Rattle.laws.specs.Parts.{front, splice}
-use Rattle.laws.proofs.Lists.{mem-getD}
+use Rattle.laws.proofs.Lists.{mem-getD, mem-take}
 use Rattle.meaning.specs.Events.{Valuation}
 use Rattle.work.specs.Bounded.{rowLimit}
 use Rattle.rows.specs.Valuations.{valuationsIn}
@@ -24,8 +24,7 @@ module _ (number variables : ℕ) (w : List ℕ) where
   first-length : (i : ℕ) → i ≤ rowLimit → length (gather (rowBytes number variables) (take i (valuationsIn w))) ≡ 24 * i
   first-length i h =
       let v = valuationsIn w in
-      let row : (σ : Valuation) → List·Memᴰ σ (take i v) → length (rowBytes number variables σ) ≡ 24 =
-      λ σ m. in-row σ (subst (λ l. List·Memᴰ σ l) (take-append-drop i v) (Memᴰ·append-left (drop i v) m)) in
+      let row : (σ : Valuation) → List·Memᴰ σ (take i v) → length (rowBytes number variables σ) ≡ 24 = λ σ m. in-row σ (mem-take i m) in
       omega (arith, gather-length (rowBytes number variables) 24 (take i v) row, length-take-le i v (omega (arith, in-length w)))
 
   pub rows-next : (i : ℕ) (l : List ℕ) {x row out : List ℕ} → i < rowLimit → 24 * i + 24 ≤ length l → x ≡ getD (valuationsIn w) i []

@@ -13,8 +13,10 @@ use Rattle.work.specs.Bounded.{pick, withStart, freeIn}
 use Rattle.work.proofs.RowSets.{free-none}
 use Rattle.constraint.specs.Constraints.{viewConstraint}
 use Rattle.disjunct.specs.Disjuncts.{viewDisjunct}
+use Rattle.disjunct.proofs.Disjuncts.{free-view}
 use Rattle.sets.specs.Sets.{disjunctsIn}
-use Rattle.collect.proofs.Turns.{free-view, disjuncts-length, ahead, ahead-all, ahead-none, ahead-next, free-more, starts, starts-not}
+use Rattle.sets.proofs.Sets.{in-length}
+use Rattle.collect.proofs.Turns.{ahead, ahead-all, ahead-none, ahead-next, free-more, starts, starts-not}
 use Rattle.collect.proofs.free_at.Statement.{statement}
 use Rattle.collect.proofs.free_at.Tie as tie
 
@@ -52,7 +54,10 @@ loop-holds c =
     let all = ap (freeIn (a .v) (viewConstraint (a .c))) (ahead-all (a .q) (a .masks .now) (disjunctsIn (a .held .now)) (a .n)) in (
       omega arith,
       ⊎-elim
-          (λ w. all ∙ sym (first (record { before = record { before = record { before = c .before; if1 = w .0 }; free = w .1 }; free-met = w .2 }) (w .3 .left)))
+          (λ w.
+          let met : tie.After-free-met Inv-loop μ-loop =
+          record { before = record { before = record { before = c .before; if1 = w .0 }; free = w .1 }; free-met = w .2 } in
+          all ∙ sym (first met (w .3 .left)))
           (λ w. all ∙ ap (freeIn (a .v) (viewConstraint (a .c))) (starts-not (w .left) _))
           (c .if1 .came),
     )
@@ -80,7 +85,7 @@ next c e =
     let s = c .before .before .before .before .before in
     let a = s .args in
     ahead-next (a .q) (a .masks .now) (disjunctsIn (a .held .now)) (a .n) (c .before .before .before .loop .i)
-    (omega (arith, s .pre .0, disjuncts-length (a .held .now))) (c .before .before .loop-test .taken) (sym (c .has .ensures) ∙ e)
+    (omega (arith, s .pre .0, in-length (a .held .now))) (c .before .before .loop-test .taken) (sym (c .has .ensures) ∙ e)
 
 -- and the test of the first of them
 next-test : (c : tie.After-free-met2 Inv-loop μ-loop) {t : Bool} → c .free-met2 .result ≡ t → let s = c .before .before .before in
@@ -110,7 +115,10 @@ loop-again c =
     let a = c .before .before .before .before .before .before .args in (
       omega arith,
       ⊎-elim
-          (λ w. sym (next-test (record { before = record { before = record { before = c .before; if3 = w .0 }; get = w .1 }; free-met2 = w .2 }) (w .3 .left)) ∙ p .inv .1)
+          (λ w.
+          let met : tie.After-free-met2 Inv-loop μ-loop =
+          record { before = record { before = record { before = c .before; if3 = w .0 }; get = w .1 }; free-met2 = w .2 } in
+          sym (next-test met (w .3 .left)) ∙ p .inv .1)
           (λ w. sym (ap (freeIn (a .v) (viewConstraint (a .c))) (next (c .before) (w .left))) ∙ p .inv .1)
           (c .if3 .came),
     )

@@ -15,10 +15,12 @@ use Rattle.work.specs.Bounded.{pick, withStart, rowLimit, rowsWith}
 use Rattle.work.proofs.RowSets.{rows-none}
 use Rattle.constraint.specs.Constraints.{viewConstraint}
 use Rattle.disjunct.specs.Disjuncts.{viewDisjunct}
+use Rattle.disjunct.proofs.Disjuncts.{free-view}
 use Rattle.sets.specs.Sets.{disjunctsIn}
+use Rattle.sets.proofs.Sets.{in-length}
 use Rattle.rows.specs.Valuations.{rowsGrown}
 use Rattle.rows.proofs.Valuations.{in-grown}
-use Rattle.collect.proofs.Turns.{free-view, disjuncts-length, ahead, ahead-all, ahead-none, ahead-next, starts, starts-not}
+use Rattle.collect.proofs.Turns.{ahead, ahead-all, ahead-none, ahead-next, starts, starts-not}
 use Rattle.collect.proofs.Turns.{Sorted, listed, sorted-at, sorted-more, more, over}
 use Rattle.collect.proofs.rows_at.Statement.{statement}
 use Rattle.collect.proofs.rows_at.Tie as tie
@@ -80,8 +82,12 @@ begun c =
     let all = ahead-all (a .q) (a .masks .now) (disjunctsIn (a .held .now)) (a .n) in
     ⊎-elim
     (λ w.
-    let e = ap₂ rowsGrown (w .6) (w .5)
-    ∙ first-put (record { before = record { before = record { before = record { before = c .before; if1 = w .0 }; add-row-arg = w .1 }; free = w .2 }; add-row = w .3 }) in
+    let put : tie.After-add-row Inv-loop μ-loop =
+    record {
+      before = record { before = record { before = record { before = c .before; if1 = w .0 }; add-row-arg = w .1 }; free = w .2 };
+      add-row = w .3;
+    } in
+    let e = ap₂ rowsGrown (w .6) (w .5) ∙ first-put put in
     let h : c .if1 .k ≤ rowLimit = omega (arith, w .6, w .4 .left) in (
       sorted-more C (freeDisjunct 4 ∷ []) (entered (c .before)) (c .if1 .k) (c .if1 .out) e h,
       more C (freeDisjunct 4 ∷ []) (entered (c .before)) (c .if1 .k) (c .if1 .out) e h _
@@ -118,7 +124,7 @@ next c e =
     let s = c .before .before .before .before .before in
     let a = s .args in
     ahead-next (a .q) (a .masks .now) (disjunctsIn (a .held .now)) (a .n) (c .before .before .before .loop .i)
-    (omega (arith, s .pre .0, disjuncts-length (a .held .now))) (c .before .before .loop-test .taken) (sym (c .has .ensures) ∙ e)
+    (omega (arith, s .pre .0, in-length (a .held .now))) (c .before .before .loop-test .taken) (sym (c .has .ensures) ∙ e)
 
 -- the row of the first of them
 next-put : (c : tie.After-add-row2 Inv-loop μ-loop) → let p = c .before .before .before .before .before .before .before .loop in
@@ -154,8 +160,12 @@ loop-again c =
     let C = viewConstraint (s .args .c) in
     ⊎-elim
     (λ w.
-    let e = ap₂ rowsGrown (w .6) (w .5)
-    ∙ next-put (record { before = record { before = record { before = record { before = t; if3 = w .0 }; get = w .1 }; add-row-arg2 = w .2 }; add-row2 = w .3 }) in
+    let put : tie.After-add-row2 Inv-loop μ-loop =
+    record {
+      before = record { before = record { before = record { before = t; if3 = w .0 }; get = w .1 }; add-row-arg2 = w .2 };
+      add-row2 = w .3;
+    } in
+    let e = ap₂ rowsGrown (w .6) (w .5) ∙ next-put put in
     let h : c .if3 .k ≤ rowLimit = omega (arith, w .6, w .4 .left) in (
       omega arith,
       sorted-more C _ (p .inv .1) (c .if3 .k) (c .if3 .out) e h,

@@ -7,10 +7,11 @@ use native.Mathlib.Numerals.{add-one}
 use native.Mathlib.Omega.{arith}
 use borrow.Author.Needs.{needs}
 use lib.ListN.{length, getD}
+use Rattle.laws.proofs.Places.{map-length}
 use Rattle.meaning.specs.Events as Events
 use Rattle.constraint.specs.Constraints.{viewDemand, demandsIn, noDemand}
 use Rattle.constraint.proofs.Views.{emptyDemand, demand-at}
-use Rattle.constraint.proofs.Steps.{length-mapped, unequal, equal, apart, agreesFrom, agrees-next, agrees-none}
+use Rattle.constraint.proofs.Steps.{unequal, equal, apart, agreesFrom, agrees-next, agrees-none}
 use Rattle.constraint.proofs.agrees_from.Statement.{statement}
 use Rattle.constraint.proofs.agrees_from.Tie as tie
 
@@ -22,7 +23,7 @@ abbrev μ-loop : tie.MeasureT-loop
 μ-loop i c d n j₀ j = n - j
 
 long : (c : tie.Start Inv-loop μ-loop) → length (c .args .t1 .demands) ≡ 4
-long c = search (needs, length-mapped)
+long c = search (needs, map-length)
 
 -- the demand that is compared, and the one that it is compared with
 abbrev kept : tie.In-loop Inv-loop μ-loop → Events.Demand

@@ -4,9 +4,10 @@ use Prim.Native.Nat.{_-_, _≤_}
 use native.Mathlib.Omega.{arith}
 use borrow.Author.Needs.{needs}
 use lib.ListN.{length, drop}
+use Rattle.laws.proofs.Places.{map-length}
 use Rattle.meaning.specs.Events as Events
 use Rattle.constraint.specs.Constraints.{demandsIn}
-use Rattle.constraint.proofs.Steps.{length-mapped, consistent-next, consistent-none}
+use Rattle.constraint.proofs.Steps.{consistent-next, consistent-none}
 use Rattle.constraint.proofs.consistent.Statement.{statement}
 use Rattle.constraint.proofs.consistent.Tie as tie
 
@@ -17,7 +18,7 @@ abbrev μ-loop : tie.MeasureT-loop
 μ-loop c n i₀ i = n - i
 
 long : (c : tie.Start Inv-loop μ-loop) → length (c .args .c .demands) ≡ 4
-long c = search (needs, length-mapped)
+long c = search (needs, map-length)
 
 loop-holds : tie.Need-loop-holds Inv-loop μ-loop
 loop-holds c = (omega arith, refl)

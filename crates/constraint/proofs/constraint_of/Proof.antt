@@ -6,12 +6,13 @@ use borrow.Author.Needs.{needs}
 use borrow.Author.Tests.{eqb-true}
 use lib.Dec.{eqb}
 use lib.ListN.{length}
+use Rattle.laws.proofs.Places.{map-length}
 use Rattle.laws.proofs.Lists.{and-true-split}
 use Rattle.meaning.specs.Events as Events
 use Rattle.table.specs.Tables.{viewSymbol}
 use Rattle.record.specs.Records.{viewEvent}
 use Rattle.constraint.proofs.Views.{demands-view}
-use Rattle.constraint.proofs.Steps.{length-mapped, matches-counts, constraint-by}
+use Rattle.constraint.proofs.Steps.{matches-counts, constraint-by}
 use Rattle.constraint.proofs.constraint_of.Statement.{statement}
 use Rattle.constraint.proofs.constraint_of.Tie as tie
 
@@ -20,8 +21,8 @@ same-count : (c : tie.Start) → Events.matches (viewSymbol (c .args .y)) (viewE
 same-count c h =
     let y = c .args .y in
     let e = c .args .e in
-    let l : length (y .places) ≡ 4 = search (needs, length-mapped) in
-    let m : length (e .args) ≡ 4 = search (needs, length-mapped) in
+    let l : length (y .places) ≡ 4 = search (needs, map-length) in
+    let m : length (e .args) ≡ 4 = search (needs, map-length) in
     sym (eqb-true (y .count) (e .count) (and-true-split (eqb (y .kind) (e .kind)) _ (sym (matches-counts y e l (c .pre .0) m (c .pre .1)) ∙ h) .1))
 
 matches-requires : tie.Need-matches-requires

@@ -4,7 +4,8 @@ use Prim.Native.Nat.{_-_, _≤_}
 use native.Mathlib.Omega.{arith}
 use borrow.Author.Needs.{needs}
 use lib.ListN.{length}
-use Rattle.constraint.proofs.Steps.{length-mapped, within-at, Filled, filled-none, filled-more}
+use Rattle.laws.proofs.Places.{map-length}
+use Rattle.constraint.proofs.Steps.{within-at, Filled, filled-none, filled-more}
 use Rattle.constraint.proofs.constraints.Statement.{statement}
 use Rattle.constraint.proofs.constraints.Tie as tie
 
@@ -15,7 +16,7 @@ abbrev μ-loop : tie.MeasureT-loop
 μ-loop n e table r₀ i₀ r i = n - i
 
 long : (c : tie.Start Inv-loop μ-loop) → length (c .args .t1) ≡ 16
-long c = search (needs, length-mapped)
+long c = search (needs, map-length)
 
 never-requires : tie.Need-never-requires Inv-loop μ-loop
 never-requires c κs = search needs

@@ -6,7 +6,8 @@ use Prim.Native.Nat.{_-_, _≤_}
 use native.Mathlib.Omega.{arith}
 use borrow.Author.Needs.{needs}
 use lib.ListN.{length}
-use Rattle.constraint.proofs.Steps.{length-mapped, Gathered, gathered-none, gathered-skip, gathered-more, gathered-all}
+use Rattle.laws.proofs.Places.{map-length}
+use Rattle.constraint.proofs.Steps.{Gathered, gathered-none, gathered-skip, gathered-more, gathered-all}
 use Rattle.constraint.proofs.demands.Statement.{statement}
 use Rattle.constraint.proofs.demands.Tie as tie
 
@@ -17,7 +18,7 @@ abbrev μ-loop : tie.MeasureT-loop
 μ-loop y e r₀ n m₀ i₀ r m i = n - i
 
 lengths : (c : tie.Start Inv-loop μ-loop) → (length (c .args .t1 .places) ≡ 4) × (length (c .args .t2 .args) ≡ 4)
-lengths c = (search (needs, length-mapped), search (needs, length-mapped))
+lengths c = (search (needs, map-length), search (needs, map-length))
 
 never-requires : tie.Need-never-requires Inv-loop μ-loop
 never-requires c κs = search needs
@@ -26,7 +27,7 @@ loop-holds : tie.Need-loop-holds Inv-loop μ-loop
 loop-holds c =
     let p = c .before .pre in
     let a = c .before .args in
-    (omega arith, refl, gathered-none (a .t1) (a .t2) (p .0) (p .1) (search (needs, length-mapped)))
+    (omega arith, refl, gathered-none (a .t1) (a .t2) (p .0) (p .1) (search (needs, map-length)))
 
 mul-p : tie.Need-mul-p Inv-loop μ-loop
 mul-p c = search needs

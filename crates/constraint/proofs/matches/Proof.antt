@@ -5,10 +5,11 @@ use borrow.Author.Needs.{needs}
 use borrow.Author.Tests.{eq-eqb, ne-eqb}
 use lib.Dec.{eqb}
 use lib.ListN.{length}
+use Rattle.laws.proofs.Places.{map-length}
 use Rattle.meaning.specs.Events as Events
 use Rattle.table.specs.Tables.{viewSymbol}
 use Rattle.record.specs.Records.{viewEvent}
-use Rattle.constraint.proofs.Steps.{length-mapped, matches-counts}
+use Rattle.constraint.proofs.Steps.{matches-counts}
 use Rattle.constraint.proofs.matches.Statement.{statement}
 use Rattle.constraint.proofs.matches.Tie as tie
 
@@ -18,8 +19,8 @@ counts : (c : tie.Start) (b : Bool) → let y = c .args .y in let e = c .args .e
 counts c b h =
     let y = c .args .y in
     let e = c .args .e in
-    let l : length (y .places) ≡ 4 = search (needs, length-mapped) in
-    let m : length (e .args) ≡ 4 = search (needs, length-mapped) in
+    let l : length (y .places) ≡ 4 = search (needs, map-length) in
+    let m : length (e .args) ≡ 4 = search (needs, map-length) in
     matches-counts y e l (c .pre .0) m (c .pre .1) ∙ ap (λ (b : Bool). b && eqb (y .count) (e .count)) h
 
 returns : tie.Need-returns

@@ -1,33 +1,29 @@
--- `rows::place_of` meets its contract. The loop's invariant: every valuation from i on stands behind x.
+-- `rows::place_of` meets its contract. The loop's invariant: x is before each of the first n from i on.
 use mathlib.Core.Path.{_≡_, sym, ap, _∙_}
 use mathlib.Core.Bool.{true≢false, false≢true}
-use mathlib.Core.List.{List, [], Memᴰ·cast}
-use Prim.Native.Nat.{ℕ, _-_, _≤_, _<_, Ordering·lt}
+use mathlib.Core.List.{[]}
+use Prim.Native.Nat.{_-_, Ordering·eq, Ordering·gt}
 use native.Mathlib.Omega.{arith}
 use borrow.Author.Needs.{needs}
-use lib.ListN.{getD, take, length}
-use lib.Seq.{length-take-le, getD-take}
-use Rattle.laws.proofs.Lists.{mem-getD}
-use Rattle.meaning.specs.Events.{Valuation}
+use lib.ListN.{getD}
+use Rattle.laws.proofs.Turns.{Passed, Compared, passed-none, passed-more, passed-found, passed-behind, passed-all}
 use Rattle.meaning.specs.Rows.{compareValuations}
 use Rattle.meaning.proofs.Orders.{valuation-order}
 use Rattle.slot.specs.Slots.{rank}
+use Rattle.slot.proofs.Slots.{rank-before, rank-equal}
 use Rattle.rows.specs.Valuations.{valuationsIn}
 use Rattle.rows.proofs.Valuations.{in-length}
-use Rattle.rows.proofs.Values.{ranked-before, ranked-same, ranked-after}
-use Rattle.rows.proofs.Places.{insert-known, insert-at, one-behind}
 use Rattle.rows.proofs.place_of.Statement.{statement}
 use Rattle.rows.proofs.place_of.Tie as tie
 
 abbrev Inv-loop : tie.InvT-loop
-Inv-loop words n x i₀ i =
-    (i ≤ n) × ((j : ℕ) → i ≤ j → j < n → compareValuations x (getD (take n (valuationsIn words)) j []) ≡ Ordering·lt)
+Inv-loop words n x i₀ i = Passed compareValuations n (valuationsIn words) x i
 
 abbrev μ-loop : tie.MeasureT-loop
 μ-loop words n x i₀ i = i
 
 loop-holds : tie.Need-loop-holds Inv-loop μ-loop
-loop-holds c = (omega arith, λ j h k. absurd (omega arith))
+loop-holds c = passed-none (omega (arith, in-length (c .args .words .now)))
 
 sub-get : tie.Need-sub-get Inv-loop μ-loop
 sub-get c = omega arith
@@ -38,34 +34,30 @@ get-requires c κs = omega arith
 compare-requires : tie.Need-compare-requires Inv-loop μ-loop
 compare-requires c κs = search needs
 
--- the valuations looked through, as many as the count says, ascending
-abbrev list : (c : tie.Start Inv-loop μ-loop) → List Valuation
-list c = take (c .args .n) (valuationsIn (c .args .words .now))
+-- what a turn knows of x and the valuation before i: where they stand, and their comparison by its number
+compared : (c : tie.After-compare Inv-loop μ-loop) → let s = c .before .before .before in let a = s .before .args in
+    Compared compareValuations (a .n) (valuationsIn (a .words .now)) (a .x) (s .loop .i) (s .loop .i - 1)
+compared c =
+    let s = c .before .before .before in
+    record {
+      order = valuation-order;
+      room = omega (arith, in-length (s .before .args .words .now));
+      rises = s .before .pre .1;
+      next = omega arith;
+      passed = s .loop .inv;
+    }
 
-size : (c : tie.Start Inv-loop μ-loop) → length (list c) ≡ c .args .n
-size c = length-take-le (c .args .n) (valuationsIn (c .args .words .now)) (omega (arith, in-length (c .args .words .now)))
-
--- the comparison with the last valuation that is not passed
-answer : (c : tie.After-compare Inv-loop μ-loop) → let l = c .before .before .before in
-    c .compare .result ≡ rank (compareValuations (l .before .args .x) (getD (list (l .before)) (l .loop .i - 1) []))
+answer : (c : tie.After-compare Inv-loop μ-loop) → let s = c .before .before .before in let a = s .before .args in
+    c .compare .result ≡ rank (compareValuations (a .x) (getD (valuationsIn (a .words .now)) (s .loop .i - 1) []))
 answer c =
-    let l = c .before .before .before in
-    let a = l .before .args in
-    let e = getD-take (a .n) (valuationsIn (a .words .now)) (l .loop .i - 1) [] (omega arith) in
-    c .compare .ensures ∙ ap (λ y. rank (compareValuations (a .x) y)) (c .before .get .ensures ∙ sym e)
+    let s = c .before .before .before in
+    c .compare .ensures ∙ ap (λ y. rank (compareValuations (s .before .args .x) y)) (c .before .get .ensures)
 
 returns : tie.Need-returns Inv-loop μ-loop
 returns c =
     let k = c .before in
-    let l = k .before .before .before in
-    let s = l .before in (
-      λ e. absurd (false≢true e),
-      λ e. (
-        l .loop .inv .0,
-        insert-at valuation-order [] (s .args .x) (list s) (l .loop .i) (s .pre .1) (omega (arith, size s))
-            (λ j u v. l .loop .inv .1 j u (omega (arith, size s))) (λ p. ranked-after _ (sym (answer k) ∙ c .if1 .taken)),
-      ),
-    )
+    let after = rank-equal _ Ordering·gt (sym (answer k) ∙ c .if1 .taken) in
+    (λ f. absurd (false≢true f), λ f. (k .before .before .before .loop .inv .upto, passed-behind (compared k) [] after))
 
 sub-t9 : tie.Need-sub-t9 Inv-loop μ-loop
 sub-t9 c = omega arith
@@ -73,13 +65,7 @@ sub-t9 c = omega arith
 returns-2 : tie.Need-returns-2 Inv-loop μ-loop
 returns-2 c =
     let k = c .before .before in
-    let l = k .before .before .before in
-    let s = l .before in
-    let i = l .loop .i - 1 in
-    let e = valuation-order .equal (s .args .x) (getD (list s) i []) (ranked-same _ (sym (answer k) ∙ c .if2 .taken)) in (
-      λ t. insert-known valuation-order (s .args .x) (list s) (s .pre .1) (Memᴰ·cast e (mem-getD (list s) i [] (omega (arith, size s)))),
-      λ t. absurd (true≢false t),
-    )
+    (λ f. passed-found (compared k) [] (rank-equal _ Ordering·eq (sym (answer k) ∙ c .if2 .taken)), λ f. absurd (true≢false f))
 
 sub-i : tie.Need-sub-i Inv-loop μ-loop
 sub-i c = omega arith
@@ -90,24 +76,10 @@ loop-less c = omega arith
 loop-again : tie.Need-loop-again Inv-loop μ-loop
 loop-again c =
     let k = c .before .before in
-    let l = k .before .before .before in
-    let s = l .before in (
-      omega arith,
-      one-behind valuation-order [] (s .args .x) (list s) (s .args .n) (l .loop .i)
-          (ranked-before _ (λ e. c .before .if1 .left (answer k ∙ e)) (λ e. c .if2 .left (answer k ∙ e))) (l .loop .inv .1),
-    )
+    passed-more (compared k) [] (rank-before _ (λ e. c .before .if1 .left (answer k ∙ e)) (λ e. c .if2 .left (answer k ∙ e)))
 
 returns-3 : tie.Need-returns-3 Inv-loop μ-loop
-returns-3 c =
-    let l = c .before in
-    let s = l .before in (
-      λ e. absurd (false≢true e),
-      λ e. (
-        omega arith,
-        insert-at valuation-order [] (s .args .x) (list s) 0 (s .pre .1) (omega arith)
-            (λ j u v. l .loop .inv .1 j (omega arith) (omega (arith, size s))) (λ p. absurd (omega arith)),
-      ),
-    )
+returns-3 c = (λ f. absurd (false≢true f), λ f. (omega arith, passed-all (c .before .loop .inv) (c .loop-test .left)))
 
 pub place-of-spec : {M : Type 1} → statement M
 place-of-spec =

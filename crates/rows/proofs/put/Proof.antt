@@ -3,9 +3,9 @@ use mathlib.Core.Path.{sym, ap, _∙_}
 use native.Mathlib.Omega.{arith}
 use borrow.Author.Needs.{needs}
 use lib.ListN.{getD, set}
+use Rattle.laws.proofs.Places.{by-index}
 use Rattle.rows.specs.Valuations.{valuationsIn}
 use Rattle.rows.proofs.Valuations.{in-stored}
-use Rattle.rows.proofs.Values.{by-four}
 use Rattle.rows.proofs.put.Statement.{statement}
 use Rattle.rows.proofs.put.Tie as tie
 
@@ -23,7 +23,7 @@ returns c =
     let x = s .args .x in
     rw (c .write .ensures)
     (in-stored w i (getD x 0 0) (getD x 1 0) (getD x 2 0) (getD x 3 0) (s .pre) (omega arith)
-    ∙ ap (λ v. set (valuationsIn w) i v) (sym (by-four x (omega arith))))
+    ∙ ap (λ v. set (valuationsIn w) i v) (sym (by-index 0 x 4 (omega arith))))
 
 pub put-spec : {M : Type 1} → statement M
 put-spec = tie.close (tie.spec mul-write write-requires returns)

@@ -1,23 +1,23 @@
 -- `rows::shift` meets its contract. The loop's invariant: the valuations from i on are moved up by one, the others as they were.
-use mathlib.Core.Path.{_≡_, ap, _∙_}
+use mathlib.Core.Path.{_≡_, sym, ap, _∙_}
 use mathlib.Core.List.{[]}
 use Prim.Native.Nat.{_-_, _≤_}
 use native.Mathlib.Omega.{arith}
-use lib.ListN.{getD, set}
+use lib.ListN.{set}
+use Rattle.laws.proofs.Turns.{Moved, moved-none, moved-more}
 use Rattle.rows.specs.Valuations.{valuationsIn}
 use Rattle.rows.proofs.Valuations.{in-length}
-use Rattle.rows.proofs.Gaps.{Moved, none-moved, one-moved}
 use Rattle.rows.proofs.shift.Statement.{statement}
 use Rattle.rows.proofs.shift.Tie as tie
 
 abbrev Inv-loop : tie.InvT-loop
-Inv-loop words₀ n k i₀ words i = (k ≤ i) × (i ≤ n) × Moved n (valuationsIn words₀) i (valuationsIn words)
+Inv-loop words₀ n k i₀ words i = (k ≤ i) × Moved n (valuationsIn words₀) i (valuationsIn words)
 
 abbrev μ-loop : tie.MeasureT-loop
 μ-loop words₀ n k i₀ words i = i - k
 
 loop-holds : tie.Need-loop-holds Inv-loop μ-loop
-loop-holds c = (c .pre .0, omega arith, none-moved (c .args .n) (valuationsIn (c .args .words .now)))
+loop-holds c = (c .pre .0, moved-none (c .args .n) (valuationsIn (c .args .words .now)))
 
 sub-get : tie.Need-sub-get Inv-loop μ-loop
 sub-get c = omega arith
@@ -36,23 +36,17 @@ loop-less c = omega arith
 
 loop-again : tie.Need-loop-again Inv-loop μ-loop
 loop-again c =
-    let g = c .before .before in
-    let t = g .before .before in
-    let l = t .before .loop in
-    let a = t .before .before .args in
-    let v = valuationsIn (l .words) in
-    let e : valuationsIn (c .put .last .0) ≡ set v (l .i) (getD v (l .i - 1) []) = c .put .ensures ∙ ap (set v (l .i)) (g .get .ensures) in (
-      omega arith,
-      omega arith,
-      rw e (one-moved [] (a .n) (valuationsIn (a .words .now)) (l .i) v (omega arith) (omega arith) (omega (arith, in-length (l .words))) (l .inv .2)),
-    )
+    let s = c .before .before .before .before .before in
+    let v = s .loop .words in
+    let w = s .before .args .words .now in
+    let put = c .put .ensures ∙ ap (set (valuationsIn v) (s .loop .i)) (c .before .before .get .ensures) in
+    (omega arith, moved-more [] (s .loop .inv .1) (omega (arith, in-length w)) (in-length v ∙ sym (in-length w)) (omega arith) put)
 
 returns : tie.Need-returns Inv-loop μ-loop
 returns c =
     let l = c .before .loop in
     let e : l .i ≡ c .before .before .args .k = omega arith in
-    let m = rw e at (l .inv .2) in
-    (m .before, m .behind)
+    rw (← e) (l .inv .1 .before, l .inv .1 .behind)
 
 pub shift-spec : {M : Type 1} → statement M
 shift-spec =

@@ -1,19 +1,31 @@
 -- `sets::insert` meets its contract: d stands among the elements, there is no room for it, or it is put where the later ones have been moved up.
+use mathlib.Core.Path.{_∙_}
+use Prim.Native.Nat.{_+_, _≤_}
 use native.Mathlib.Omega.{arith}
 use borrow.Author.Needs.{needs}
+use lib.ListN.{length}
+use Rattle.laws.proofs.Turns.{insert-found, insert-over, insert-put}
+use Rattle.meaning.specs.Labels.{compareDisjuncts}
 use Rattle.disjunct.specs.Disjuncts.{viewDisjunct}
-use Rattle.sets.proofs.Turns.{insert-found, insert-over, insert-put}
+use Rattle.sets.specs.Sets.{disjunctsIn}
+use Rattle.sets.proofs.Sets.{in-length, in-counted, in-full}
 use Rattle.sets.proofs.insert.Statement.{statement}
 use Rattle.sets.proofs.insert.Tie as tie
 
 place-of-requires : tie.Need-place-of-requires
 place-of-requires c κs = search needs
 
+-- there are places for the elements
+room : (s : tie.Start) → s .args .n ≤ length (disjunctsIn (s .args .words .now))
+room s = omega (arith, s .pre .0, in-length (s .args .words .now))
+
 returns : tie.Need-returns
 returns c =
     let s = c .before .before .before in
     let a = s .args in
-    insert-found (a .words .now) (a .n) (viewDisjunct (a .d)) (s .pre .0) (c .before .place-of .ensures .0 (c .if1 .taken))
+    let w = a .words .now in
+    let there = c .before .place-of .ensures .0 (c .if1 .taken) in
+    in-counted (a .n) w ∙ insert-found compareDisjuncts 128 (a .n) (disjunctsIn w) (viewDisjunct (a .d)) (s .pre .0) (room s) there
 
 returns-2 : tie.Need-returns-2
 returns-2 c =
@@ -21,7 +33,10 @@ returns-2 c =
     let a = s .args in
     let p = c .before .before .place-of in
     let h = p .ensures .1 (c .before .if1 .left) in
-    insert-over (a .words .now) (a .n) (viewDisjunct (a .d)) (s .pre .0) (p .result .at) (h .0) (h .1) (c .if2 .taken)
+    let w = a .words .now in
+    in-full 129 w (omega arith)
+    ∙ insert-over compareDisjuncts 128 (a .n) (disjunctsIn w) (viewDisjunct (a .d)) (s .pre .0) (room s)
+    (p .result .at) (h .0) (h .1) (c .if2 .taken)
 
 shift-requires : tie.Need-shift-requires
 shift-requires c κs =
@@ -44,8 +59,11 @@ returns-3 c =
     let p = c .before .before .before .before .before .before .place-of in
     let h = p .ensures .1 (c .before .before .before .before .before .if1 .left) in
     let m = c .before .before .shift in
-    insert-put (a .words .now) (a .n) (viewDisjunct (a .d)) (s .pre .0) (p .result .at) (h .0) (h .1) (m .last .0) (c .put .last .0)
-    (omega (arith, s .pre .0)) (record { upto = h .0; before = m .ensures .0; behind = m .ensures .1 }) (c .put .ensures)
+    in-counted (a .n + 1) (c .put .last .0)
+    ∙ insert-put compareDisjuncts 128 (a .n) (disjunctsIn (a .words .now)) (viewDisjunct (a .d)) (s .pre .0) (room s)
+    (p .result .at) (h .0) (h .1) (disjunctsIn (m .last .0)) (disjunctsIn (c .put .last .0))
+    (omega (arith, s .pre .0)) (omega (arith, s .pre .0, in-length (m .last .0)))
+    (record { upto = h .0; before = m .ensures .0; behind = m .ensures .1 }) (c .put .ensures)
 
 pub insert-spec : {M : Type 1} → statement M
 insert-spec =

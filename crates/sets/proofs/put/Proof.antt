@@ -5,7 +5,8 @@ use lib.ListN.{length, getD, set}
 use borrow.Author.Needs.{needs}
 use Rattle.laws.proofs.Places.{map-length}
 use Rattle.slot.specs.Slots.{viewSlot}
-use Rattle.sets.proofs.Views.{noSlot, write-four}
+use Rattle.disjunct.proofs.Slots.{noSlot}
+use Rattle.sets.proofs.Views.{write-four}
 use Rattle.sets.proofs.put.Statement.{statement}
 use Rattle.sets.proofs.put.Tie as tie
 

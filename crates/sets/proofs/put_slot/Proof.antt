@@ -125,7 +125,8 @@ returns-2 c =
     let s = c .before .before .before .before in
     let z = c .before .size in
     let l : length (s .args .s .excluded) ≡ 6 = search needs in
-    write-free (s .args .words .now) (s .args .j) (s .args .s) (z .result) (s .pre .0) (s .pre .1) (c .before .before .if1 .left) l (z .ensures .0) (z .ensures .1)
+    let unbound = c .before .before .if1 .left in
+    write-free (s .args .words .now) (s .args .j) (s .args .s) (z .result) (s .pre .0) (s .pre .1) unbound l (z .ensures .0) (z .ensures .1)
 
 pub put-slot-spec : {M : Type 1} → statement M
 put-slot-spec =

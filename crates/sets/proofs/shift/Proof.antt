@@ -1,19 +1,24 @@
 -- `sets::shift` meets its contract. The loop's invariant: the elements from i on have been moved up.
+use mathlib.Core.Path.{_≡_, sym, ap, _∙_}
+use mathlib.Core.List.{[]}
 use Prim.Native.Nat.{_≤_}
 use native.Mathlib.Omega.{arith}
 use borrow.Author.Needs.{needs}
-use Rattle.sets.proofs.Turns.{Moved, moved-none, moved-more, moved-all}
+use lib.ListN.{set}
+use Rattle.laws.proofs.Turns.{Moved, moved-none, moved-more}
+use Rattle.sets.specs.Sets.{disjunctsIn}
+use Rattle.sets.proofs.Sets.{in-length}
 use Rattle.sets.proofs.shift.Statement.{statement}
 use Rattle.sets.proofs.shift.Tie as tie
 
 abbrev Inv-loop : tie.InvT-loop
-Inv-loop words₀ n k i₀ words i = (k ≤ i) × Moved words₀ n i words
+Inv-loop words₀ n k i₀ words i = (k ≤ i) × Moved n (disjunctsIn words₀) i (disjunctsIn words)
 
 abbrev μ-loop : tie.MeasureT-loop
 μ-loop words₀ n k i₀ words i = i
 
 loop-holds : tie.Need-loop-holds Inv-loop μ-loop
-loop-holds c = (c .pre .0, moved-none (c .args .words .now) (c .args .n))
+loop-holds c = (c .pre .0, moved-none (c .args .n) (disjunctsIn (c .args .words .now)))
 
 sub-get : tie.Need-sub-get Inv-loop μ-loop
 sub-get c = search needs
@@ -33,10 +38,16 @@ loop-less c = search needs
 loop-again : tie.Need-loop-again Inv-loop μ-loop
 loop-again c =
     let s = c .before .before .before .before .before in
-    (omega arith, moved-more (s .loop .inv .1) (s .before .pre .1) (omega arith) (c .before .before .get .ensures) (c .put .ensures))
+    let v = s .loop .words in
+    let w = s .before .args .words .now in
+    let put = c .put .ensures ∙ ap (set (disjunctsIn v) (s .loop .i)) (c .before .before .get .ensures) in
+    (omega arith, moved-more [] (s .loop .inv .1) (omega (arith, in-length w)) (in-length v ∙ sym (in-length w)) (omega arith) put)
 
 returns : tie.Need-returns Inv-loop μ-loop
-returns c = moved-all (c .before .loop .inv .1) (c .before .before .args .k) (omega arith)
+returns c =
+    let l = c .before .loop in
+    let e : l .i ≡ c .before .before .args .k = omega arith in
+    rw (← e) (l .inv .1 .before, l .inv .1 .behind)
 
 pub shift-spec : {M : Type 1} → statement M
 shift-spec =

@@ -7,12 +7,13 @@ use native.Mathlib.Nat.{sub-zero}
 use native.Mathlib.Omega.{arith}
 use lib.ListN.{length, getD, length-map}
 use Rattle.laws.specs.Bits.{join}
+use Rattle.laws.proofs.Bits.{join-none, none-join}
 use Rattle.laws.specs.Lists.{all}
 use Rattle.laws.proofs.Lists.{and-true-split}
 use Rattle.meaning.specs.Book.{soundPlace, boundIn}
 use Rattle.table.specs.Tables.{viewPlace, viewSymbol}
 use Rattle.table.proofs.Spans.{ahead, ahead-none, ahead-cons}
-use Rattle.table.proofs.Masks.{join-none, none-join, join-next}
+use Rattle.table.proofs.Masks.{join-next}
 use Rattle.table.proofs.bound_in.Statement.{statement}
 use Rattle.table.proofs.bound_in.Tie as tie
 

@@ -6,12 +6,11 @@ use Prim.Native.Nat.{_<_}
 use native.Mathlib.Nat.{one-mul, mod-eq-of-lt}
 use borrow.Author.Tests.{eq-eqb, ne-eqb, ltb-true}
 use Rattle.laws.specs.Bits.{single}
-use Rattle.laws.proofs.Bits.{single-below}
+use Rattle.laws.proofs.Bits.{single-below, join-none}
 use Rattle.meaning.specs.Events as Events
 use Rattle.meaning.specs.Book.{soundPlace, boundIn}
 use Rattle.table.specs.declared.Place.{Place}
 use Rattle.table.specs.Tables.{viewPlace}
-use Rattle.table.proofs.Masks.{join-none}
 use Rattle.table.proofs.place_bound.Statement.{statement}
 use Rattle.table.proofs.place_bound.Tie as tie
 

@@ -51,17 +51,20 @@ kept-requires c κs = search needs
 
 add-i : tie.Need-add-i Inv-loop μ-loop
 add-i c =
-    let b = c .before .before .before .before .before .before .before .before .before .before .before .before .before .before .before .before .before .before .before .before in
+    let t = c .before .before .before .before .before .before .before .before .before .before in
+    let b = t .before .before .before .before .before .before .before .before .before .before in
     omega (arith, b .loop-test .taken)
 
 loop-less : tie.Need-loop-less Inv-loop μ-loop
 loop-less c =
-    let b = c .before .before .before .before .before .before .before .before .before .before .before .before .before .before .before .before .before .before .before .before in
+    let t = c .before .before .before .before .before .before .before .before .before .before in
+    let b = t .before .before .before .before .before .before .before .before .before .before in
     omega (arith, b .loop-test .taken)
 
 loop-again : tie.Need-loop-again Inv-loop μ-loop
 loop-again c =
-    let b = c .before .before .before .before .before .before .before .before .before .before .before .before .before .before .before .before .before .before .before .before in
+    let t = c .before .before .before .before .before .before .before .before .before .before in
+    let b = t .before .before .before .before .before .before .before .before .before .before in
     (omega (arith, b .before .loop .inv .0), omega (arith, b .before .loop .inv .1))
 
 same-length : tie.Need-same-length Inv-loop μ-loop

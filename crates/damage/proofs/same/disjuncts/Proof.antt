@@ -2,7 +2,7 @@
 use Prim.Native.Nat.{_≤_, _-_}
 use mathlib.Core.Path.{_≡_}
 use lib.ListN.{length}
-use Rattle.damage.proofs.Lengths.{length-mapped}
+use Rattle.laws.proofs.Places.{map-length}
 use borrow.Author.Needs.{needs}
 use Rattle.damage.proofs.same.disjuncts.Statement.{statement}
 use Rattle.damage.proofs.same.disjuncts.Tie as tie
@@ -14,7 +14,7 @@ abbrev μ-loop : tie.MeasureT-loop
 μ-loop a b i₀ i = 4 - i
 
 loop-holds : tie.Need-loop-holds Inv-loop μ-loop
-loop-holds c = search (needs, length-mapped)
+loop-holds c = search (needs, map-length)
 
 mul-s : tie.Need-mul-s Inv-loop μ-loop
 mul-s c = search needs

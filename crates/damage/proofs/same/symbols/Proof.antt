@@ -2,7 +2,7 @@
 use Prim.Native.Nat.{_≤_, _-_}
 use mathlib.Core.Path.{_≡_}
 use lib.ListN.{length}
-use Rattle.damage.proofs.Lengths.{length-mapped}
+use Rattle.laws.proofs.Places.{map-length}
 use borrow.Author.Needs.{needs}
 use Rattle.damage.proofs.same.symbols.Statement.{statement}
 use Rattle.damage.proofs.same.symbols.Tie as tie
@@ -17,7 +17,7 @@ returns : tie.Need-returns Inv-loop μ-loop
 returns c = search needs
 
 loop-holds : tie.Need-loop-holds Inv-loop μ-loop
-loop-holds c = search (needs, length-mapped)
+loop-holds c = search (needs, map-length)
 
 mul-x : tie.Need-mul-x Inv-loop μ-loop
 mul-x c = search needs

@@ -47,7 +47,8 @@ returns c =
     let l = c .before .before .before .before .before in
     let a = l .before .args in
     let r = c .before .compare-exclusions in
-    from-differs (lex compare) exclusions (a .t1) (a .t2) (sizes l .0) (sizes l .1) (l .loop .i) (r .result) (c .before .before .before .before .loop-test .taken)
+    let more = c .before .before .before .before .loop-test .taken in
+    from-differs (lex compare) exclusions (a .t1) (a .t2) (sizes l .0) (sizes l .1) (l .loop .i) (r .result) more
     (r .ensures) (c .if1 .taken)
     ∙ ap rank (l .loop .inv)
 

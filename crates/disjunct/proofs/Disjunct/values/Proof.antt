@@ -1,6 +1,6 @@
 -- `Disjunct::values` meets its contract: the first i values, and zeros behind them.
 use mathlib.Core.Path.{_≡_, refl, sym, ap, ap₂, _∙_}
-use mathlib.Core.Bool.{cond}
+use mathlib.Core.Bool.{Bool, true, false, cond}
 use mathlib.Core.Logic.{⊎-elim}
 use Prim.Native.Nat.{_-_, _≤_}
 use native.Mathlib.Omega.{arith}
@@ -8,11 +8,12 @@ use borrow.Author.Needs.{needs}
 use lib.ListN.{length, take, getD, set, length-map}
 use lib.Seq.{take-all}
 use Rattle.laws.specs.Parts.{pad}
+use Rattle.laws.proofs.Parts.{pad-full, pad-next}
 use Rattle.meaning.specs.Rows.{valueOf, valuationOf}
 use Rattle.disjunct.specs.declared.Disjunct.{Disjunct}
 use Rattle.disjunct.specs.Disjuncts.{viewDisjunct}
 use Rattle.disjunct.proofs.Disjuncts.{view-length, sized}
-use Rattle.disjunct.proofs.Slots.{noSlot, key-at, value-slot, pad-full, fill-next, fill-same}
+use Rattle.disjunct.proofs.Slots.{noSlot, key-at, value-slot, fill-same}
 use Rattle.disjunct.proofs.Disjunct.values.Statement.{statement}
 use Rattle.disjunct.proofs.Disjunct.values.Tie as tie
 
@@ -57,11 +58,12 @@ loop-again c =
     let x = getD (d .vars) (l .i) noSlot in
     let h = c .before .before .loop-test .taken in
     let g = size d (sized d (s .good .0) .four) in
-    let e = key-at valueOf d (l .i) ∙ sym (value-slot x) in (
+    let here : (t : Bool) → x .bound ≡ t → getD v (l .i) 0 ≡ cond t (x .value) 0 =
+    λ t e. key-at valueOf d (l .i) ∙ sym (value-slot x) ∙ ap (λ b. cond b (x .value) 0) e in (
       omega arith,
       ⊎-elim
-          (λ w. w .1 ∙ ap₂ (λ r y. set r (l .i) y) (l .inv .1) (sym (e ∙ ap (λ b. cond b (x .value) 0) (w .0 .taken))) ∙ fill-next 4 0 v (l .i) 0 h (omega arith))
-          (λ w. w .1 ∙ l .inv .1 ∙ fill-same 4 0 v (l .i) h (omega arith) (e ∙ ap (λ b. cond b (x .value) 0) (w .0 .left)))
+          (λ w. w .1 ∙ ap₂ (λ r y. set r (l .i) y) (l .inv .1) (sym (here true (w .0 .taken))) ∙ pad-next 4 0 v (l .i) 0 (omega arith) h)
+          (λ w. w .1 ∙ l .inv .1 ∙ fill-same 4 0 v (l .i) h (omega arith) (here false (w .0 .left)))
           (c .if1 .came),
     )
 

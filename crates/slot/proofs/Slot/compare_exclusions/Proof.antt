@@ -111,7 +111,9 @@ over c l =
     (c .loop-test .came)
 
 returns-3 : tie.Need-returns-3 Inv-loop μ-loop
-returns-3 c = let t = c .before .before in answered t Ordering·lt (lex-shorter _ _ _ _ (t .loop .i) (over (c .before) (c .if4 .taken)) (c .if4 .taken) (counted t .1))
+returns-3 c =
+    let t = c .before .before in
+    answered t Ordering·lt (lex-shorter _ _ _ _ (t .loop .i) (over (c .before) (c .if4 .taken)) (c .if4 .taken) (counted t .1))
 
 returns-4 : tie.Need-returns-4 Inv-loop μ-loop
 returns-4 c =

@@ -6,8 +6,9 @@ use borrow.Author.Needs.{needs}
 use lib.Dec.{eqb}
 use lib.ListN.{length, take}
 use Rattle.laws.specs.Lists.{any}
+use Rattle.laws.proofs.Lists.{taken-none}
 use Rattle.slot.proofs.Slots.{view-taken}
-use Rattle.slot.proofs.Places.{rest, rest-none, any-here, any-later}
+use Rattle.slot.proofs.Places.{rest, any-here, any-later}
 use Rattle.slot.proofs.Slot.excludes.Statement.{statement}
 use Rattle.slot.proofs.Slot.excludes.Tie as tie
 
@@ -58,7 +59,7 @@ returns-2 c =
     let a = c .before .before .before .before .args in
     let z = c .before .before .before .size in
     let i = c .before .loop in
-    let e = ap (any (eqb (a .x))) (rest-none (a .self .excluded) (z .result) (i .i) (c .loop-test .left)) in
+    let e = ap (any (eqb (a .x))) (taken-none (a .self .excluded) (z .result) (i .i) (c .loop-test .left)) in
     sym (ap (any (eqb (a .x))) (view-taken (a .self) (z .result) (z .ensures .0)) ∙ i .inv .1 ∙ e)
 
 pub excludes-spec : {M : Type 1} → statement M

@@ -4,9 +4,10 @@ use Prim.Native.Nat.{_+_, _-_, _≤_}
 use native.Mathlib.Omega.{arith}
 use borrow.Author.Needs.{needs}
 use lib.ListN.{length, take}
+use Rattle.laws.proofs.Lists.{taken-none}
 use Rattle.slot.specs.Slots.{smaller}
 use Rattle.slot.proofs.Slots.{view-taken}
-use Rattle.slot.proofs.Places.{rest, rest-none, smaller-more, smaller-none}
+use Rattle.slot.proofs.Places.{rest, smaller-more, smaller-none}
 use Rattle.slot.proofs.Slot.place.Statement.{statement}
 use Rattle.slot.proofs.Slot.place.Tie as tie
 
@@ -54,7 +55,7 @@ returns-2 : tie.Need-returns-2 Inv-loop μ-loop
 returns-2 c =
     let a = c .before .before .before .before .args in
     let z = c .before .before .before .size in
-    let e = ap (smaller (a .x)) (rest-none (a .self .excluded) (z .result) (c .before .loop .i) (c .loop-test .left)) in
+    let e = ap (smaller (a .x)) (taken-none (a .self .excluded) (z .result) (c .before .loop .i) (c .loop-test .left)) in
     omega (arith, ap (smaller (a .x)) (view-taken (a .self) (z .result) (z .ensures .0)))
 
 pub place-spec : {M : Type 1} → statement M

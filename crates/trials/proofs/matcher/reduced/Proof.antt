@@ -7,7 +7,8 @@ use Rattle.trials.proofs.matcher.reduced.Statement.{statement}
 use Rattle.trials.proofs.matcher.reduced.Tie as tie
 
 abbrev Inv-loop : tie.InvT-loop
-Inv-loop symbols count trace accepted code variables domain masks₀ events₀ n₀ e₀ masks events n e = (length masks ≡ length masks₀) × (length events ≡ length events₀)
+Inv-loop symbols count trace accepted code variables domain masks₀ events₀ n₀ e₀ masks events n e =
+    (length masks ≡ length masks₀) × (length events ≡ length events₀)
 
 abbrev μ-loop : tie.MeasureT-loop
 μ-loop symbols count trace accepted code variables domain masks₀ events₀ n₀ e₀ masks events n e = 16 - e

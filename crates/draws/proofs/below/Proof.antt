@@ -1,10 +1,10 @@
--- `damage::draws::below` is safe and ends: of the product one factor is below 46337 and the other small, since y is below 2^31.
+-- `draws::below` meets its contract, and is safe: of the product one factor is below 46337 and the other small, since y is below 2^31.
 use Prim.Native.Nat.{ℕ, _+_, _*_, _/_, _%_, _≤_}
-use native.Mathlib.Nat.{mul-le-mul-right}
+use native.Mathlib.Nat.{mul-le-mul-right, mod-lt}
 use native.Mathlib.Omega.{arith}
 use borrow.Author.Needs.{needs, scaled-fits}
-use Rattle.damage.proofs.draws.below.Statement.{statement}
-use Rattle.damage.proofs.draws.below.Tie as tie
+use Rattle.draws.proofs.below.Statement.{statement}
+use Rattle.draws.proofs.below.Tie as tie
 
 product-within : (y : ℕ) → y % 46337 * (y / 46337 + 7) ≤ 46337 * (y / 46337 + 7)
 product-within y = mul-le-mul-right (y / 46337 + 7) (omega arith)
@@ -40,7 +40,7 @@ rem-result : tie.Need-rem-result
 rem-result c = search needs
 
 returns-2 : tie.Need-returns-2
-returns-2 c = search needs
+returns-2 c = λ h. mod-lt _ h
 
 pub below-spec : {M : Type 1} → statement M
 below-spec =

@@ -1,29 +1,10 @@
-// Numbers that look random from a fixed start (a linear congruence with modulus 2^31 - 1), and amounts by which a number is put out of
-// its range.
-ghost use Prim.Native.Nat.{_<_};
-
-// The next state of the generator.
-pub fn next(x: u64) -> u64
-    ensures { λ r. ⌜ r < 2147483647 ⌝ }
-{
-    x % 2147483647 * 48271 % 2147483647
-}
-
-// A number below n; k tells several draws of one state apart.
-pub fn below(x: u64, k: u64, n: u64) -> u64 {
-    if n == 0 {
-        return 0;
-    }
-    let y = next(x % 2147483647 + k % 65536 * 26544 + 1);
-    let z = y % 46337 * (y / 46337 + 7) + y;
-    next(z) / 8 % n
-}
+// Amounts by which a number is put out of its range, drawn at random.
 
 // An amount: often 0 to 2, else middling, large, or near the largest number of 32 or 64 bits.
 pub fn amount(x: u64, k: u64) -> u64 {
-    let y = below(x, k % 65536 + 1, 268000000);
+    let y = draws::below(x, k % 65536 + 1, 268000000);
     let near = y % 1000;
-    match below(x, k, 6) {
+    match draws::below(x, k, 6) {
         0 => y % 1000,
         1 => y,
         2 => 4280000000 + near,
@@ -52,10 +33,10 @@ pub fn byte(x: u64) -> u8 {
 
 // A counter of a tally: also the largest value and one below it.
 pub fn counter(x: u64, k: u64) -> u64 {
-    match below(x, k, 4) {
+    match draws::below(x, k, 4) {
         0 => 18446744073709551615,
         1 => 18446744073709551614,
         2 => amount(x, k % 65536 + 1),
-        _ => below(x, k % 65536 + 2, 3),
+        _ => draws::below(x, k % 65536 + 2, 3),
     }
 }
