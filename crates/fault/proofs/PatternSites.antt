@@ -13,14 +13,14 @@ use lib.ListN.{length}
 use Rattle.form.specs.Text.{Bytes, space, lf}
 use Rattle.form.specs.Scan.{at}
 use Rattle.form.proofs.TokenScan.{inside-of}
-use Rattle.fault.specs.Places.{Spot, behind, spotAt, On, Ends, Header, PatternLine, TokenAt, before, Pattern}
+use Rattle.fault.specs.Places.{Spot, passed, spotAt, On, Ends, Header, PatternLine, TokenAt, before, Pattern}
 use Rattle.fault.specs.Fault
 use Rattle.fault.specs.Fault.{TokenFault, Fault}
 use Rattle.fault.proofs.Sites.{behind-header, Clean}
 use Rattle.fault.proofs.Spots.{NotBehind, spot-step, spot-later, word-end, word-spot, word-same}
 
 -- an LF, and only it, ends the line
-behind-line : (x : Spot) (b : ℕ) → (b ≡ lf → ⊥) → behind x b .line ≡ x .line
+behind-line : (x : Spot) (b : ℕ) → (b ≡ lf → ⊥) → passed x b .line ≡ x .line
 behind-line x b h = rw (ne-eqb b lf h) (by (eqb b space))
   where
     by : (t : Bool) → cond {A = Spot} t (record { line = x .line; words = x .words; inside = false })

@@ -193,7 +193,7 @@ module _ (s : Bytes) (bytes : isBytes s ≡ true) where
   long-rule : ((number ≡ 1) × (place ≡ textLimit)) ↔ (textLimit < length s)
   long-rule = (λ (e, f). Accepted.too-long s .0 e, λ h. let e = Accepted.too-long s .1 h in (e, sym (Bench.long-place s e)))
 
-  pub refused : Rules s (numberOf (reading s .answer)) (placeOf (reading s .answer))
+  pub refused : Rules s (placeOf (reading s .answer)) (numberOf (reading s .answer))
   refused = rw (Bench.answer-number s, Bench.answer-place s) (record {
     long = long-rule;
     fault = fault-rule;

@@ -17,24 +17,24 @@ use Rattle.form.specs.Text.{Bytes, space, lf}
 use Rattle.form.specs.Scan.{at, pastEnd, run, isWordByte, wordEnd}
 use Rattle.form.proofs.Scans.{wordEnd-le, run-step}
 use Rattle.form.proofs.TokenScan.{by-test}
-use Rattle.fault.specs.Places.{Spot, first, behind, behindAll, spotAt, Word}
+use Rattle.fault.specs.Places.{Spot, outset, passed, passedAll, spotAt, Word}
 
 -- x does not lie behind y: by line, then by words begun
 abbrev pub NotBehind : Spot → Spot → Type 0
 NotBehind x y = (x .line < y .line) ⊎ ((x .line ≡ y .line) × (x .words ≤ y .words))
 
 -- from one spot to the next: what a byte more does
-behind-append : (x : Spot) (l m : Bytes) → behindAll x (l ++ m) ≡ behindAll (behindAll x l) m
-behind-append x [] m = refl
-behind-append x (b ∷ l) m = behind-append (behind x b) l m
+passed-append : (x : Spot) (l m : Bytes) → passedAll x (l ++ m) ≡ passedAll (passedAll x l) m
+passed-append x [] m = refl
+passed-append x (b ∷ l) m = passed-append (passed x b) l m
 
 behind-word : (x : Spot) (b : ℕ) → isWordByte b ≡ true
-    → behind x b ≡ record { line = x .line; words = cond (x .inside) (x .words) (suc (x .words)); inside = true }
+    → passed x b ≡ record { line = x .line; words = cond (x .inside) (x .words) (suc (x .words)); inside = true }
 behind-word x b h =
     let a = and-true-split (not (eqb b space)) (not (eqb b lf)) h in
     rw (not-true (eqb b lf) (a .1), not-true (eqb b space) (a .0))
 
-behind-later : (x : Spot) (b : ℕ) → NotBehind x (behind x b)
+behind-later : (x : Spot) (b : ℕ) → NotBehind x (passed x b)
 behind-later x b =
     by-test (NotBehind x) (eqb b lf) (λ _. inl (omega arith))
     λ _. by-test (NotBehind x) (eqb b space) (λ _. inr (refl, omega arith))
@@ -75,17 +75,17 @@ run-end f (b ∷ l) = go (f b) refl (run-end f l)
     go false e h = inr e
 
 module _ (s : Bytes) where
-  pub spot-zero : spotAt s 0 ≡ first
+  pub spot-zero : spotAt s 0 ≡ outset
   unfolding spotAt
   spot-zero = refl
 
-  pub spot-step : (p : ℕ) → p < length s → spotAt s (p + 1) ≡ behind (spotAt s p) (at s p)
+  pub spot-step : (p : ℕ) → p < length s → spotAt s (p + 1) ≡ passed (spotAt s p) (at s p)
   unfolding spotAt
   spot-step p h =
-      ap (λ n. behindAll first (take n s)) (add-one p) ∙ ap (behindAll first) (take-suc s p pastEnd h)
-      ∙ behind-append first (take p s) (at s p ∷ [])
+      ap (λ n. passedAll outset (take n s)) (add-one p) ∙ ap (passedAll outset) (take-suc s p pastEnd h)
+      ∙ passed-append outset (take p s) (at s p ∷ [])
 
-  spot-suc : (p : ℕ) → p < length s → spotAt s (suc p) ≡ behind (spotAt s p) (at s p)
+  spot-suc : (p : ℕ) → p < length s → spotAt s (suc p) ≡ passed (spotAt s p) (at s p)
   spot-suc p h = ap (spotAt s) (sym (add-one p)) ∙ spot-step p h
 
   pub spot-later : (p q : ℕ) → p ≤ q → q ≤ length s → NotBehind (spotAt s p) (spotAt s q)

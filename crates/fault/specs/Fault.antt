@@ -1,10 +1,11 @@
 -- `Fault s q n`: the text s has the fault n (2 to 6) at place q, by one sentence of document 01 ("The book"; "What a call hands back",
--- Reading) for each constructor. `Least`: "the earliest place; at one place the smaller number".
+-- Reading) for each constructor. `Least`: "the earliest place; at one place the smaller number". "A book is ASCII text" has none of its
+-- own: a word or token with a byte from 128 on is one of notVars, notSym, noName, noKind, noArgument, misplaced, or stands in excess.
 use mathlib.Core.Path.{_≡_}
 use mathlib.Core.Bool.{Bool, true, false, _&&_}
-use mathlib.Core.List.{List, [], _∷_, _++_}
+use mathlib.Core.List.{[], _∷_, _++_}
 use mathlib.Core.Logic.{_⊎_}
-use Prim.Native.Nat.{ℕ, suc, _+_, _≤_, _<_}
+use Prim.Native.Nat.{ℕ, _+_, _≤_, _<_}
 use lib.ListN.{length}
 use Rattle.laws.specs.Lists.{all}
 use Rattle.form.specs.Text.{Bytes, space, lf, isLower, isNameByte, varsWord, symWord, matchWord, ignoredWord, decimal}
@@ -30,7 +31,7 @@ IsArgument k i = (1 ≤ k) × (3 ≤ i) × (i ≤ 6)
 pub data WordFault (s : Bytes) (k i p : ℕ) : ℕ → Type 0 where
   -- "First line: `vars`"
   notVars : k ≡ 0 → i ≡ 0 → (wordAt s p ≡ varsWord → ⊥) → WordFault s k i p 2
-  -- "Then 1 to 16 lines `sym NAME KIND ARGS`. … Last line: `match`": any other word
+  -- "Then 1 to 16 lines `sym NAME KIND ARGS`. … Last line: `match`": any other word (`Header`, in `word` below, excludes `match`)
   notSym : 1 ≤ k → i ≡ 0 → (wordAt s p ≡ symWord → ⊥) → WordFault s k i p 2
   -- "the first excess word … carries 3 (for a seventeenth `sym`, that word"
   seventeenth : k ≡ 17 → i ≡ 0 → wordAt s p ≡ symWord → WordFault s k i p 3
@@ -56,9 +57,9 @@ pub data WordFault (s : Bytes) (k i p : ℕ) : ℕ → Type 0 where
 pub data TokenFault (s : Bytes) (k p q : ℕ) : ℕ → Type 0 where
   -- "for a name over 12 bytes, that name"
   longToken : isLower (at s q) ≡ true → 12 < length (nameAt s q) → TokenFault s k p q 3
-  -- "At most 31 symbol occurrences": a thirty-second
+  -- "At most 31 symbol occurrences": a thirty-second, and any after it
   thirtySecond : isLower (at s q) ≡ true → 31 ≤ occurrences (before s p q) → TokenFault s k p q 3
-  -- "at most 16 parentheses open together": a seventeenth
+  -- "at most 16 parentheses open together": a seventeenth, and any more
   seventeenthOpen : at s q ≡ opening → 16 + signs closing (before s p q) ≤ signs opening (before s p q) → TokenFault s k p q 3
   -- "name not declared"; "a variable's in the pattern, is 5": no symbol has this name
   unknownSymbol : isLower (at s q) ≡ true
@@ -80,7 +81,7 @@ pub data Fault (s : Bytes) (q : ℕ) : ℕ → Type 0 where
   word : {k i n : ℕ} → Word s k i q → Header s k → WordFault s k i q n → Fault s q n
   -- "a missing one is placed at the LF"
   missingWord : {k : ℕ} → On s k q → Header s k → Ends s q → WordsMissing k (spotAt s q .words) → Fault s q 2
-  -- "1 to 16 lines `sym`": none
+  -- "Then 1 to 16 lines": `match` stands where the first of them must
   missingSym : Word s 1 0 q → wordAt s q ≡ matchWord → Fault s q 2
   -- "Last line: `match`, a space, a pattern": the space is missing
   missingSpace : {k p : ℕ} → PatternLine s k p → (at s (p + 5) ≡ space → ⊥) → q ≡ p + 5 → Fault s q 2
@@ -89,7 +90,7 @@ pub data Fault (s : Bytes) (q : ℕ) : ℕ → Type 0 where
   -- "pattern out of form": the pattern wants a token more
   missingToken : {k p : ℕ} → PatternLine s k p → at s (p + 5) ≡ space → On s k q → Ends s q → Begins (before s p q)
       → (Pattern (before s p q) → ⊥) → Fault s q 6
-  -- "a missing LF at the book's end"
+  -- "a missing LF at the book's end": the book ends on a line before the pattern's (which is then missing) or on the pattern's
   missingLF : {k : ℕ} → On s k q → NoMatch s k → q ≡ length s → Fault s q 2
   -- "Nothing follows it."
   after : {k p : ℕ} (e : ℕ) → PatternLine s k p → On s k e → at s e ≡ lf → e + 1 < length s → q ≡ e + 1 → Fault s q 2

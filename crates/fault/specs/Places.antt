@@ -6,7 +6,7 @@ use mathlib.Core.Logic.{_⊎_}
 use Prim.Native.Nat.{ℕ, suc, _+_, _≤_, _<_}
 use lib.Dec.{eqb}
 use lib.ListN.{length, take}
-use Rattle.laws.specs.Lists.{all, keep}
+use Rattle.laws.specs.Lists.{keep}
 use Rattle.pattern.specs.Regex.{Regex}
 use Rattle.form.specs.Text.{Bytes, space, lf, isLower, isNameByte, matchWord}
 use Rattle.form.specs.Tokens.{Token, name, sign, tokens}
@@ -20,23 +20,23 @@ pub record Spot : Type 0 where
   pub words : ℕ
   pub inside : Bool
 
-abbrev pub first : Spot
-first = record { line = 0; words = 0; inside = false }
+abbrev pub outset : Spot
+outset = record { line = 0; words = 0; inside = false }
 
 -- behind one byte more
-abbrev pub behind : Spot → ℕ → Spot
-behind x b =
+abbrev pub passed : Spot → ℕ → Spot
+passed x b =
     let begun : ℕ = cond (x .inside) (x .words) (suc (x .words)) in
     let word : Spot = record { line = x .line; words = begun; inside = true } in
     let gap : Spot = record { line = x .line; words = x .words; inside = false } in
     cond (eqb b lf) (record { line = suc (x .line); words = 0; inside = false }) (cond (eqb b space) gap word)
 
-abbrev pub behindAll : Spot → Bytes → Spot
-behindAll x [] = x
-behindAll x (b ∷ l) = behindAll (behind x b) l
+abbrev pub passedAll : Spot → Bytes → Spot
+passedAll x [] = x
+passedAll x (b ∷ l) = passedAll (passed x b) l
 
 unfoldable pub spotAt : Bytes → ℕ → Spot
-spotAt s p = behindAll first (take p s)
+spotAt s p = passedAll outset (take p s)
 
 -- the place p is on line k
 abbrev pub On : Bytes → (k p : ℕ) → Type 0
@@ -56,15 +56,15 @@ pub record Word (s : Bytes) (k i p : ℕ) : Type 0 where
 abbrev pub wordAt : Bytes → ℕ → Bytes
 wordAt s p = part s p (wordEnd s p)
 
--- no line from 1 up to, but not with, line k begins with `match`: the pattern's line does not stand before line k
+-- of the lines from 1 up to, but not with, line k none has `match` for its first word: the pattern's line does not stand before line k
 abbrev pub NoMatch : Bytes → ℕ → Type 0
 NoMatch s k = (j q : ℕ) → 1 ≤ j → j < k → Word s j 0 q → wordAt s q ≡ matchWord → ⊥
 
--- line k is the first line or stands before the pattern's
+-- line k is line 0, or no pattern's line stands before it and it is none itself
 abbrev pub Header : Bytes → ℕ → Type 0
 Header s k = NoMatch s (suc k)
 
--- line k is the pattern's: the first, behind line 0, that begins with `match`; this word stands at p
+-- line k is the pattern's: the first, behind line 0, whose first word is `match`; this word stands at p
 pub record PatternLine (s : Bytes) (k p : ℕ) : Type 0 where
   pub word : Word s k 0 p
   pub match : wordAt s p ≡ matchWord

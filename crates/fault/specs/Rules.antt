@@ -1,5 +1,5 @@
 -- Document 01, Reading, whole: "1 first; then the earliest place; at one place the smaller number; 7, then 8, after everything, placed at
--- the pattern's first token." `Rules s n p`: the number n and the place p are what these rules give for the text s.
+-- the pattern's first token." `Rules s p n`: the place p and the number n are what these rules give for the text s.
 use mathlib.Core.Path.{_≡_}
 use mathlib.Core.Bool.{false}
 use mathlib.Core.List.{List, []}
@@ -23,7 +23,7 @@ LeavesUnbound s =
     (d : Declarations) × (r : Regex) × Shape s d r
     × ((v : ℕ) × (w : List ℕ) × (v < length (d .variables)) × In r w × (any (binds d v) w ≡ false))
 
-pub record Rules (s : Bytes) (n p : ℕ) : Type 0 where
+pub record Rules (s : Bytes) (p n : ℕ) : Type 0 where
   -- 1 at 4,096, iff the text is longer
   pub long : ((n ≡ 1) × (p ≡ textLimit)) ↔ (textLimit < length s)
   -- 2 to 6, iff this is the least fault of a text that is not

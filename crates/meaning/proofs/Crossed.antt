@@ -37,7 +37,7 @@ module _ {A : Type 0} (f : A → Bool) (l : List A) (d : A) where
       (eq-or-lt-of-le h)
 
 -- the partners the other way round
-abbrev turn : {t u : List Event} → Pairing t u → Pairing u t
+abbrev turn : {t u : List Event} → Pairing noEvent t u → Pairing noEvent u t
 turn {u} pairs = record {
   to = pairs .back;
   back = pairs .to;
@@ -49,12 +49,12 @@ turn {u} pairs = record {
 }
 
 -- what holds of all events of one holds of all their partners
-paired-all : (f : Event → Bool) (t u : List Event) → Pairing t u → all f t ≡ true → all f u ≡ true
+paired-all : (f : Event → Bool) (t u : List Event) → Pairing noEvent t u → all f t ≡ true → all f u ≡ true
 paired-all f t u pairs h = all-of f u λ e m.
     let (j, k, x) = mem-index noEvent m in
     sym (ap f (turn pairs .same j k ∙ x)) ∙ all-at f h (mem-getD t (pairs .back j) noEvent (pairs .back-inside j k))
 
-turn-ordered : (tm : Tracematch) (t u : List Event) (pairs : Pairing t u) → Ordered tm t u pairs → Ordered tm u t (turn pairs)
+turn-ordered : (tm : Tracematch) (t u : List Event) (pairs : Pairing noEvent t u) → Ordered noEvent (λ e. e) tm t u pairs → Ordered noEvent (λ e. e) tm u t (turn pairs)
 turn-ordered tm t u pairs ord = record { keeps = λ i j h k d. lt-of-not-le (crossing i j h k d) }
   where
     -- were they not in the order of i and j, their partners, which are i and j, would not be either
@@ -77,7 +77,7 @@ turn-ordered tm t u pairs ord = record { keeps = λ i j h k d. lt-of-not-le (cro
 
 -- The events that concern one valuation come in the same order in both traces, so up to one of them, and up to its
 -- partner, both traces are reduced alike.
-module _ (tm : Tracematch) (t u : List Event) (pairs : Pairing t u) (ord : Ordered tm t u pairs)
+module _ (tm : Tracematch) (t u : List Event) (pairs : Pairing noEvent t u) (ord : Ordered noEvent (λ e. e) tm t u pairs)
     (σ : Valuation) (v : isValuation (tm .variables) σ ≡ true) where
   abbrev concerned : Event → Bool
   concerned e = concerns (tm .symbols) e σ
@@ -139,7 +139,7 @@ module _ (tm : Tracematch) (t u : List Event) (pairs : Pairing t u) (ord : Order
         ahead = λ j p q c. r .ahead j (omega arith) q c;
       }
 
-row : (tm : Tracematch) (t u : List Event) (pairs : Pairing t u) → Ordered tm t u pairs → (i : ℕ) → i < length t → (σ : Valuation)
+row : (tm : Tracematch) (t u : List Event) (pairs : Pairing noEvent t u) → Ordered noEvent (λ e. e) tm t u pairs → (i : ℕ) → i < length t → (σ : Valuation)
     → Row tm t (suc i) σ → Row tm u (suc (pairs .to i)) σ
 row tm t u pairs ord i h σ r =
     let c : concerns (tm .symbols) (getD t i noEvent) σ ≡ true = rw (last i) at (r .concerned) in
@@ -150,7 +150,7 @@ row tm t u pairs ord i h σ r =
     last n = omega arith
 
 -- partners are rows for the same valuations
-pub partner-rows : (tm : Tracematch) (t u : List Event) (pairs : Pairing t u) → Ordered tm t u pairs → (i : ℕ) → i < length t → (σ : Valuation)
+pub partner-rows : (tm : Tracematch) (t u : List Event) (pairs : Pairing noEvent t u) → Ordered noEvent (λ e. e) tm t u pairs → (i : ℕ) → i < length t → (σ : Valuation)
     → Row tm t (suc i) σ ↔ Row tm u (suc (pairs .to i)) σ
 partner-rows tm t u pairs ord i h σ = (
   row tm t u pairs ord i h σ,
@@ -158,7 +158,7 @@ partner-rows tm t u pairs ord i h σ = (
 )
 
 pub crossed : (tm : Tracematch) → Proper tm → (xs ys : List Call) → all wellFormed (traceOf xs) ≡ true
-    → (pairs : Pairing (traceOf xs) (traceOf ys)) → Ordered tm (traceOf xs) (traceOf ys) pairs → (i : ℕ) → i < length (traceOf xs)
+    → (pairs : Pairing noEvent (traceOf xs) (traceOf ys)) → Ordered noEvent (λ e. e) tm (traceOf xs) (traceOf ys) pairs → (i : ℕ) → i < length (traceOf xs)
     → (getD (rowLists tm xs) i [] ≡ getD (rowLists tm ys) (pairs .to i) [])
     × Listed tm (traceOf xs) (suc i) (getD (rowLists tm xs) i [])
     × Listed tm (traceOf ys) (suc (pairs .to i)) (getD (rowLists tm ys) (pairs .to i) [])

@@ -8,7 +8,7 @@ use Prim.Native.Nat.{ℕ, suc, _<_}
 use lib.ListN.{length, getD}
 use Rattle.laws.specs.Order.{ascending}
 use Rattle.meaning.specs.Events.{Event, Valuation, wellFormed, isValuation, concerns}
-use Rattle.meaning.specs.Meaning.{Tracematch, noEvent, Row}
+use Rattle.meaning.specs.Meaning.{Tracematch, Row}
 use Rattle.meaning.specs.Book.{Book, bookOf}
 use Rattle.meaning.specs.Labels.{Held, State, fresh, next, newHeld}
 use Rattle.meaning.specs.Room.{room}
@@ -70,15 +70,15 @@ pub record Listed (tm : Tracematch) (t : List Event) (n : ℕ) (l : List Valuati
   pub exact : (σ : Valuation) → List·Memᴰ σ l ↔ Row tm t n σ
 
 -- "Partners are accepted events with the same 20 bytes, one in each run; each accepted event has exactly one partner."
--- Events are counted from 0 here.
-pub record Pairing (t u : List Event) : Type 0 where
+-- What pairs up (events here, their records in the crate watch) is counted from 0; d is a default that is never used.
+pub record Pairing {A : Type 0} (d : A) (t u : List A) : Type 0 where
   pub to : ℕ → ℕ
   pub back : ℕ → ℕ
   pub to-inside : (i : ℕ) → i < length t → to i < length u
   pub back-inside : (j : ℕ) → j < length u → back j < length t
   pub back-to : (i : ℕ) → i < length t → back (to i) ≡ i
   pub to-back : (j : ℕ) → j < length u → to (back j) ≡ j
-  pub same : (i : ℕ) → i < length t → getD u (to i) noEvent ≡ getD t i noEvent
+  pub same : (i : ℕ) → i < length t → getD u (to i) d ≡ getD t i d
 
 -- "Two events concern a common valuation if some one valuation is concerned by both."
 pub record Dependent (tm : Tracematch) (e f : Event) : Type 0 where
@@ -87,6 +87,6 @@ pub record Dependent (tm : Tracematch) (e f : Event) : Type 0 where
   pub first : concerns (tm .symbols) e common ≡ true
   pub second : concerns (tm .symbols) f common ≡ true
 
--- demand 3: "dependent ones in the same order"
-pub record Ordered (tm : Tracematch) (t u : List Event) (pairs : Pairing t u) : Type 0 where
-  pub keeps : (i j : ℕ) → i < j → j < length t → Dependent tm (getD t i noEvent) (getD t j noEvent) → pairs .to i < pairs .to j
+-- demand 3: "dependent ones in the same order"; `event` is the event that an element holds
+pub record Ordered {A : Type 0} (d : A) (event : A → Event) (tm : Tracematch) (t u : List A) (pairs : Pairing d t u) : Type 0 where
+  pub keeps : (i j : ℕ) → i < j → j < length t → Dependent tm (event (getD t i d)) (event (getD t j d)) → pairs .to i < pairs .to j

@@ -12,7 +12,7 @@ use Rattle.meaning.specs.Meaning.{Tracematch}
 use Rattle.meaning.specs.Book.{bookOf}
 use Rattle.meaning.specs.Labels.{Held, newHeld}
 use Rattle.meaning.specs.Room.{Broken}
-use Rattle.meaning.specs.Runs.{Listed, Dependent}
+use Rattle.meaning.specs.Runs.{Listed, Pairing, Ordered}
 use Rattle.form.specs.Text.{Bytes, isBytes}
 use Rattle.record.specs.Records.{isRecord, eventIn}
 use Rattle.book.specs.declared.Book.{Book}
@@ -124,18 +124,12 @@ pub data Judged (tm : Tracematch) (t : List Event) (l : Lent) : ℕ → Type 0 w
 
 -- "Partners are accepted events with the same 20 bytes, one in each run; each accepted event has exactly one partner." Records of
 -- the accepted calls, counted from 0.
-pub record Partners (t u : List Bytes) : Type 0 where
-  pub to : ℕ → ℕ
-  pub back : ℕ → ℕ
-  pub to-inside : (i : ℕ) → i < length t → to i < length u
-  pub back-inside : (j : ℕ) → j < length u → back j < length t
-  pub back-to : (i : ℕ) → i < length t → back (to i) ≡ i
-  pub to-back : (j : ℕ) → j < length u → to (back j) ≡ j
-  pub same : (i : ℕ) → i < length t → getD u (to i) [] ≡ getD t i []
+abbrev pub Partners : (t u : List Bytes) → Type 0
+Partners t u = Pairing [] t u
 
 -- demand 3: "dependent ones in the same order"; dependent: "if some one valuation is concerned by both"
-pub record InOrder (tm : Tracematch) (t u : List Bytes) (p : Partners t u) : Type 0 where
-  pub keeps : (i j : ℕ) → i < j → j < length t → Dependent tm (eventIn (getD t i [])) (eventIn (getD t j [])) → p .to i < p .to j
+abbrev pub InOrder : (tm : Tracematch) (t u : List Bytes) → Partners t u → Type 0
+InOrder tm t u p = Ordered [] eventIn tm t u p
 
 -- Demand 3 for partners, the n-th of the trace t and the k-th of the trace u: both have demand 2's rows, these are the same
 -- valuations, and "bytes 4 to 23 of their rows are equal, first row to last, as each call left them".
