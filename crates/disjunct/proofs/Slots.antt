@@ -1,5 +1,5 @@
--- What the functions of this crate share: a slot of a disjunct against its entry, an array of slots written in one place, a padded
--- list filled from the front, and a lexicographic comparison by its first elements.
+-- What the functions of this crate share: a slot of a disjunct against its entry, an array of slots written in one place, or filled
+-- from the front, and a lexicographic comparison by its first elements.
 use mathlib.Core.Path.{_≡_, refl, sym, ap, ap₂, _∙_}
 use mathlib.Core.Bool.{Bool, true, false, cond, not}
 use mathlib.Core.List.{List, [], _∷_, map}

@@ -1,4 +1,5 @@
--- The laws of the definitions in ../specs, a file for each; sets under a map (Maps); and sets that code keeps in arrays (Places).
+-- The laws of the definitions in ../specs, a file for each; sets under a map (Maps); lists and sets that code keeps in arrays (Places),
+-- and the turns of loops over such a set (Turns).
 pub mod Lists
 pub mod Bits
 pub mod Order
