@@ -1,11 +1,9 @@
 -- Positions and disjuncts in lent words as what is held; and the counts of a book within its arrays.
-use mathlib.Core.Path.{_≡_}
-use mathlib.Core.Bool.{true, cond}
+use mathlib.Core.Bool.{cond}
 use mathlib.Core.List.{List}
 use Prim.Native.Nat.{ℕ, _≤_}
 use lib.Dec.{leb}
 use lib.ListN.{take}
-use Rattle.laws.specs.Lists.{all}
 use Rattle.laws.specs.Sets.{Grown, full, grown}
 use Rattle.meaning.specs.Labels.{Held}
 use Rattle.work.specs.Bounded.{heldOf}

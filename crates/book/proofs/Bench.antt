@@ -24,11 +24,11 @@ use Rattle.meaning.proofs.Kept.{proper-sound}
 use Rattle.form.specs.Text.{Bytes, Declarations, header, tracematchOf, spans}
 use Rattle.form.specs.Form.{Shape, Form, allNames, binds, textLimit}
 use Rattle.form.specs.Scan.{run, isSpace}
-use Rattle.form.specs.Lines.{bytesAt}
+use Rattle.form.specs.Lines.{bytesAt, declaredTable}
 use Rattle.form.specs.Reading.{Outcome, readingOf}
 use Rattle.form.proofs.Accepted as Accepted
 use Rattle.form.proofs.Faults.{either}
-use Rattle.form.proofs.Header.{tableOf, header-names}
+use Rattle.form.proofs.Header.{header-names}
 use Rattle.form.proofs.Outcomes.{known}
 use Rattle.form.proofs.Shapes.{shape-found}
 use Rattle.table.specs.Tables.{tableOf as heldTable, viewTable, nameOf, noName}
@@ -91,10 +91,10 @@ few-places v l h = all-of _ l λ y m. simp and-eq-true-iff at (all-at (soundSymb
 
 module _ (s : Bytes) where
   -- the table of a text in form
-  table-view : (d : Declarations) (r : Regex) → Form s d r → (length (tableOf d .variables) ≡ length (d .variables))
-      × (viewTable (heldTable (tableOf d)) ≡ tableOf d)
+  table-view : (d : Declarations) (r : Regex) → Form s d r → (length (declaredTable d .variables) ≡ length (d .variables))
+      × (viewTable (heldTable (declaredTable d)) ≡ declaredTable d)
   table-view d r f =
-      let t = tableOf d in
+      let t = declaredTable d in
       let h = f .shape in
       let (a, b) = header-names s d (shape-found s d r h .header) in
       let e : length (t .variables) ≡ length (d .variables) = sym (length-map (t .variables) (bytesAt s)) ∙ ap length a in
@@ -171,7 +171,7 @@ no-place s d r f n h =
 
 -- the whole struct of an accepted text, every array with its padding; its names are the declaring places
 pub whole : (s : Bytes) (d : Declarations) (r : Regex) → Form s d r
-    → reading s .book ≡ bookFor (record { number = 0; place = 0; table = tableOf d; tree = r })
+    → reading s .book ≡ bookFor (record { number = 0; place = 0; table = declaredTable d; tree = r })
 unfolding readingFor
 whole s d r f = ap (λ o. readingFor o .book) (Accepted.fields s d r f)
 

@@ -1,21 +1,19 @@
 -- The book as the code holds it: every array padded with zeros to its length; and what a reading hands back.
 use mathlib.Core.Bool.{cond, false}
-use mathlib.Core.List.{List, [], map, _++_}
+use mathlib.Core.List.{map, _++_}
 use Prim.Native.Nat.{ℕ, _+_}
 use lib.Count.{ones}
-use lib.Dec.{eqb, ltb}
-use lib.ListN.{length, getD, replicate, take}
+use lib.Dec.{eqb}
+use lib.ListN.{getD, replicate, take}
 use Rattle.laws.specs.Lists.{numbers}
 use Rattle.laws.specs.Parts.{pad}
 use Rattle.pattern.specs.Regex.{nullable}
 use Rattle.pattern.specs.Positions as Positions
 use Rattle.meaning.specs.Book as Plain
 use Rattle.form.specs.Text.{Bytes, Span}
-use Rattle.form.specs.Scan.{part}
 use Rattle.form.specs.Lines as Lines
 use Rattle.form.specs.Reading.{Outcome, readingOf}
-use Rattle.table.specs.Tables.{tableOf, nameOf, noName, viewSymbol}
-use Rattle.table.specs.declared.Name.{Name}
+use Rattle.table.specs.Tables.{tableOf, viewSymbol}
 use Rattle.book.specs.Answers.{answerOf}
 use Rattle.book.specs.declared.Book.{Book}
 use Rattle.book.specs.declared.Reading.{Reading}

@@ -1,4 +1,4 @@
-// The book by value, the answers of a reading, and what a reading hands back. For the reader and, later, the matcher.
+// The book by value, the answers of a reading, and what a reading hands back. For the reader and the matcher.
 use piece::Piece;
 use table::Name;
 use table::Symbol;

@@ -1,10 +1,10 @@
 -- How the code holds a constraint: the view of it is the constraint of the meaning.
 use mathlib.Core.Path.{_≡_}
-use mathlib.Core.Bool.{Bool, true, false, cond}
+use mathlib.Core.Bool.{true, false, cond}
 use mathlib.Core.List.{List, [], map}
-use Prim.Native.Nat.{ℕ, _≤_}
+use Prim.Native.Nat.{_≤_}
 use lib.Dec.{ltb}
-use lib.ListN.{length, take}
+use lib.ListN.{take}
 use Rattle.laws.specs.Lists.{all}
 use Rattle.meaning.specs.Events as Events
 use Rattle.constraint.specs.declared.Demand.{Demand}

@@ -6,7 +6,7 @@ ghost use mathlib.Core.Bool.{true, _&&_};
 ghost use mathlib.Core.List.{map};
 ghost use Prim.Native.Nat.{ℕ, suc, _≤_, _<_};
 ghost use lib.Dec.{leb};
-ghost use lib.ListN.{length, take, drop, getD};
+ghost use lib.ListN.{take, drop, getD};
 ghost use Rattle.laws.specs.Lists.{all};
 ghost use Rattle.meaning.specs.Events as Events;
 ghost use Rattle.meaning.specs.Book.{soundPlace};

@@ -1,6 +1,5 @@
 -- How the code holds a disjunct: four slots, those beyond the book's variables free.
-use mathlib.Core.List.{List, [], map}
-use Prim.Native.Nat.{ℕ}
+use mathlib.Core.List.{[], map}
 use Rattle.laws.specs.Parts.{pad}
 use Rattle.meaning.specs.Labels as Labels
 use Rattle.slot.specs.Slots.{viewSlot, slotOf}

@@ -6,12 +6,12 @@ ghost use mathlib.Core.Bool.{true, false};
 ghost use mathlib.Core.List.{map};
 ghost use Prim.Native.Nat.{compare, _≤_, _<_};
 ghost use lib.Dec.{leb};
-ghost use lib.ListN.{length, take, drop};
+ghost use lib.ListN.{length, take};
 ghost use Rattle.laws.specs.Lists.{any};
 ghost use Rattle.laws.specs.Order.{lex};
 ghost use Rattle.meaning.specs.Labels as Labels;
 ghost use Rattle.meaning.specs.Rows.{valuationOf};
-ghost use Rattle.slot.specs.Slots.{viewSlot, rank};
+ghost use Rattle.slot.specs.Slots.{rank};
 ghost use Rattle.constraint.specs.Constraints.{viewConstraint, Ready};
 ghost use Rattle.disjunct.specs.Disjuncts.{viewDisjunct, disjunctOf};
 

@@ -1,24 +1,20 @@
--- Theorem `starred`: every starred roast of document 01, its text read and its records taken, comes out as document 01 has it, by
--- computation from the very definitions that the contracts of `read` and `event` cite. `starred-listed`: the rows of its accepted
--- events are exactly the valuations of the declarative meaning.
-use mathlib.Core.Path.{_≡_, refl}
-use mathlib.Core.Bool.{Bool, true}
-use mathlib.Core.List.{List, map, List·Memᴰ}
-use Prim.Native.Nat.{ℕ, suc}
-use Prim.Native.String.{String}
+-- Theorem `starred`, about the whole table: every starred roast of document 01, its text read and its records taken, comes out as
+-- document 01 has it, by computation from the very definitions that the contracts of `read` and `event` cite (`computed`); and this
+-- is what the meanings say: rows of the declarative meaning, numbers and places by the rules for texts.
+use mathlib.Core.Path.{_≡_, refl, sym, ap, _∙_}
+use mathlib.Core.Bool.{Bool, true, _&&_}
+use mathlib.Core.List.{List, _∷_, map, List·Memᴰ, List·Memᴰ·head, List·Memᴰ·tail}
 use Rattle.laws.specs.Bits.{bit, join, meet, single}
 use Rattle.laws.specs.Lists.{all}
 use Rattle.laws.specs.Parts.{front, splice, pad}
-use Rattle.laws.proofs.Lists.{all-at}
-use Rattle.pattern.specs.Regex.{Regex}
+use Rattle.laws.proofs.Lists.{all-at, and-true-split}
 use Rattle.meaning.specs.Events.{matches, constraintOf}
 use Rattle.meaning.specs.Book.{soundBook, soundSymbol}
 use Rattle.meaning.specs.Labels.{compareDisjuncts, skipBy, sources, stepSet, skipSet, newLabel, newHeld}
 use Rattle.meaning.specs.Room.{setRoom, room}
 use Rattle.meaning.specs.Rows.{rows, leavesFree}
 use Rattle.meaning.specs.Sound.{soundPiece, soundHeld, soundState}
-use Rattle.form.specs.Text.{Declarations, tracematchOf}
-use Rattle.form.specs.Form.{Form}
+use Rattle.form.specs.Text.{ascii, isBytes}
 use Rattle.form.specs.Scan.{spacesEnd, wordEnd, nameEnd, nextWord, nameFault, kindOf}
 use Rattle.form.specs.Lines.{wantWord, kindFrom, symbolFrom, linesOf}
 use Rattle.form.specs.Parse.{itemOf, nameAtom, closed, alternationFrom, patternFrom}
@@ -33,29 +29,40 @@ use Rattle.state.specs.States.{stateOf, heldFirst, viewState}
 use Rattle.sound.specs.Soundness.{symbolCounts, bookCounts, bookSound, slotCounts, stateCounts, stateSound}
 use Rattle.writer.specs.RowBytes.{wordBytes, rowBytes}
 use Rattle.watch.specs.Calls.{freshState, rowsBy, stateBy, leavesFreeBy, roomBy, unsound, outOfForm, tooMany, noRoom, noSpace, answerTo, taken, bufferAfter}
-use Rattle.watch.specs.Runs.{Made, make, runOf, acceptedIn, traceOf, allBytes, Within, Delivered}
+use Rattle.watch.specs.Runs.{make, allBytes}
+use Rattle.book.proofs.Bench as Bench
+use Rattle.fault.proofs.Refused.{refused}
 use Rattle.watch.proofs.Listed.{listed}
-use Rattle.examples.specs.Starred.{ascii, Line, Entry, runs, reads, callOf, outcome, wanted, table}
+use Rattle.examples.specs.Starred.{Entry, runs, reads, callOf, outcome, wanted, Meant, table}
 
-pub starred : map outcome table ≡ map wanted table
+pub computed : map outcome table ≡ map wanted table
 unfolding bit join meet single front splice pad matches constraintOf soundBook soundSymbol compareDisjuncts skipBy sources stepSet skipSet newLabel
     newHeld setRoom room rows leavesFree soundPiece soundHeld soundState spacesEnd wordEnd nameEnd nextWord nameFault kindOf wantWord kindFrom
     symbolFrom linesOf itemOf nameAtom closed alternationFrom patternFrom lastLine matchFrom readingOf symbolOf tableOf viewSymbol wordAt argumentsIn
     isRecord eventIn viewSlot slotOf viewDisjunct disjunctOf answerOf readingFor bookFor emptyBook viewBook stateOf heldFirst viewState symbolCounts
     bookCounts bookSound slotCounts stateCounts stateSound wordBytes rowBytes freshState rowsBy stateBy leavesFreeBy roomBy unsound outOfForm tooMany
     noRoom noSpace answerTo taken bufferAfter make table
-starred = refl
+computed = refl
 
--- the records of an entry are bytes
+-- the text and the records of an entry are bytes
 abbrev inBytes : Entry → Bool
-inBytes (runs t ls) = allBytes (map callOf ls)
-inBytes (reads t n p) = true
+inBytes (runs t ls) = isBytes (ascii t) && allBytes (map callOf ls)
+inBytes (reads t n p) = isBytes (ascii t)
 
 bytes : all inBytes table ≡ true
 unfolding table pad
 bytes = refl
 
-pub starred-listed : (t : String) (ls : List Line) → List·Memᴰ (runs t ls) table → (d : Declarations) (r : Regex) → Form (ascii t) d r
-    → (i : ℕ) (m : Made) → Within (acceptedIn (runOf (reading (ascii t) .book) (map callOf ls))) i m
-    → Delivered (tracematchOf d r) (traceOf (runOf (reading (ascii t) .book) (map callOf ls))) (suc i) m
-starred-listed t ls h d r f i m w = listed (ascii t) d r f (map callOf ls) (all-at inBytes bytes h) i m w
+-- two functions that give the same list agree at its elements
+same-at : {A B : Type 0} (f g : A → B) {x : A} {l : List A} → map f l ≡ map g l → List·Memᴰ x l → f x ≡ g x
+same-at f g {l = y ∷ l} h (List·Memᴰ·head e) = let k : f y ≡ g y = cc in ap f e ∙ k ∙ ap g (sym e)
+same-at f g {l = y ∷ l} h (List·Memᴰ·tail m) = let k : map f l ≡ map g l = cc in same-at f g k m
+
+meant : (e : Entry) → List·Memᴰ e table → outcome e ≡ wanted e → Meant e
+meant (runs t ls) h o =
+    let (d, r, f) = Bench.accepted (ascii t) .0 (ap (λ x. x .number) o) in
+    (d, r, f, listed (ascii t) d r f (map callOf ls) (and-true-split (isBytes (ascii t)) _ (all-at inBytes bytes h) .1))
+meant (reads t n p) h o = rw (ap (λ x. x .number) o, ap (λ x. x .place) o) at (refused (ascii t) (all-at inBytes bytes h))
+
+pub starred : (e : Entry) → List·Memᴰ e table → (outcome e ≡ wanted e) × Meant e
+starred e h = let o = same-at outcome wanted computed h in (o, meant e h o)

@@ -1,22 +1,19 @@
 -- The table of the starred roasts of document 01, as bytes: texts with the records sent under them and the lines that come back, and
 -- texts with the number and place that their reading gets. The theorems about the whole table are in ../proofs/Starred.antt.
 use mathlib.Core.List.{List, [], _∷_, _++_, map}
-use Prim.Native.Nat.{ℕ, _-_}
-use Prim.Native.Char.{code}
+use Prim.Native.Nat.{ℕ, suc, _-_}
 use Prim.Native.String.{String}
 use lib.ListN.{length, replicate}
 use Rattle.laws.specs.Lists.{gather}
 use Rattle.laws.specs.Parts.{pad}
-use Rattle.form.specs.Text.{Bytes}
+use Rattle.pattern.specs.Regex.{Regex}
+use Rattle.form.specs.Text.{Bytes, ascii, Declarations, tracematchOf}
+use Rattle.form.specs.Form.{Form}
+use Rattle.fault.specs.Rules.{Rules}
 use Rattle.book.specs.Answers as Reading
 use Rattle.book.specs.Books.{reading}
 use Rattle.watch.specs.Answers.{numberOf}
-use Rattle.watch.specs.Runs.{Call, event, Made, runOf}
-
--- the bytes of an ASCII text
-abbrev pub ascii : String → Bytes
-ascii String.[] = []
-ascii (String._∷_ c s) = code c ∷ ascii s
+use Rattle.watch.specs.Runs.{Call, event, Made, runOf, acceptedIn, traceOf, Within, Delivered}
 
 -- a number below 256 in four bytes
 abbrev word : ℕ → Bytes
@@ -79,6 +76,15 @@ wantedBack l =
 abbrev pub wanted : Entry → Outcome
 wanted (runs t ls) = record { number = 0; place = 0; lines = map wantedBack ls }
 wanted (reads t n p) = record { number = n; place = p; lines = [] }
+
+-- What the outcome means: under an accepted text, of the stated form, the rows of each accepted call are those of the declarative meaning;
+-- the number and place of a reading are those of the rules for texts.
+abbrev pub Meant : Entry → Type 0
+Meant (runs t ls) =
+    let ms = runOf (reading (ascii t) .book) (map callOf ls) in
+    (d : Declarations) × (r : Regex) × Form (ascii t) d r
+    × ((i : ℕ) (m : Made) → Within (acceptedIn ms) i m → Delivered (tracematchOf d r) (traceOf ms) (suc i) m)
+Meant (reads t n p) = Rules (ascii t) p n
 
 -- the records of B1 and B2, variables d and s
 abbrev load : ℕ → ℕ → Bytes

@@ -22,9 +22,9 @@ use Rattle.form.specs.Tokens.{Token}
 use Rattle.form.specs.Phrase.{Phrase, Level, symbol, group, plain, starred, plussed, optional, last, then, only, or}
 use Rattle.form.specs.Form.{Shape, Form, allNames, binds, textLimit}
 use Rattle.form.specs.Scan.{run, isSpace}
-use Rattle.form.specs.Lines.{noTable, bytesAt}
+use Rattle.form.specs.Lines.{noTable, bytesAt, declaredTable}
 use Rattle.form.specs.Reading.{variablesOf, readingOf}
-use Rattle.form.proofs.Header.{tableOf, header-names}
+use Rattle.form.proofs.Header.{header-names}
 use Rattle.form.proofs.Outcomes.{patternOf, bindsAll, answer, known, words-first}
 use Rattle.form.proofs.Ascii.{shape-ascii}
 use Rattle.form.proofs.Shapes.{Found, shape-found, shape-first, whole-shape}
@@ -84,7 +84,7 @@ module _ (s : Bytes) (d : Declarations) (r : Regex) (f : Found s d r) where
 
   mask : bindsAll s ≡ all (λ v. bit v (boundBy vars r)) (numbers 0 (length (d .variables)))
   mask =
-      let count = sym (length-map (tableOf d .variables) (bytesAt s)) ∙ ap length (header-names s d (f .header) .0) in
+      let count = sym (length-map (declaredTable d .variables) (bytesAt s)) ∙ ap length (header-names s d (f .header) .0) in
       rw (f .tree, f .table, count)
 
   bound : (bindsAll s ≡ true) ↔ ((v : ℕ) → v < length (d .variables) → (w : List ℕ) → In r w → any (binds d v) w ≡ true)
@@ -110,7 +110,7 @@ module _ (s : Bytes) where
       let g = shape-found s d _ f in
       (d, f, g, sym (by-words d _ g) ∙ e)
 
-  pub fields : (d : Declarations) (r : Regex) → Form s d r → readingOf s ≡ record { number = 0; place = 0; table = tableOf d; tree = r }
+  pub fields : (d : Declarations) (r : Regex) → Form s d r → readingOf s ≡ record { number = 0; place = 0; table = declaredTable d; tree = r }
   fields d r f =
       let g = shape-found s d r (f .shape) in
       let n : nullable (patternOf s .tree) ≡ false = not-eq-not .0 (λ e. f .nonempty (flag s d r g .1 e)) in
@@ -131,7 +131,7 @@ module _ (s : Bytes) where
       let y = shape-found s e q g in
       let n = header-names s d (x .header) in
       let o = header-names s e (y .header) in
-      let t : tableOf d ≡ tableOf e = sym (x .table) ∙ y .table in
+      let t : declaredTable d ≡ declaredTable e = sym (x .table) ∙ y .table in
       let variables : d .variables ≡ e .variables = sym (n .0) ∙ ap (λ z. map (bytesAt s) (z .variables)) t ∙ o .0 in
       let symbols : d .symbols ≡ e .symbols =
       same-lines _ _ (sym (n .1) ∙ ap (λ z. map (bytesAt s) (z .symbols)) t ∙ o .1) (ap (λ z. z .table) t) in
@@ -141,7 +141,7 @@ module _ (s : Bytes) where
   pub names-placed : (d : Declarations) (r : Regex) → Shape s d r → map (bytesAt s) (spans d) ≡ allNames d
   names-placed d r f =
       let n = header-names s d (shape-found s d r f .header) in
-      map-append (bytesAt s) (tableOf d .variables) (tableOf d .symbols) ∙ ap₂ _++_ (n .0) (n .1)
+      map-append (bytesAt s) (declaredTable d .variables) (declaredTable d .symbols) ∙ ap₂ _++_ (n .0) (n .1)
 
   pub seven : (readingOf s .number ≡ 7) ↔ ((d : Declarations) × (r : Regex) × Shape s d r × In r [])
   seven = (

@@ -16,7 +16,7 @@ use Rattle.form.specs.Text.{Bytes, space, lf, isName, varsWord, symWord,
 use Rattle.form.specs.Text.{SymbolLine, Declarations, header, symbolOf, variableSpans, symbolSpans}
 use Rattle.form.specs.Form.{sameWord, distinct, allNames, symbolNames}
 use Rattle.form.specs.Scan.{go, fail, run, part, isWordByte, wordEnd}
-use Rattle.form.specs.Lines.{Table, noTable, Variables, Lines, variablesFrom, linesFrom, linesOf, bytesAt}
+use Rattle.form.specs.Lines.{Table, noTable, Variables, Lines, variablesFrom, linesFrom, linesOf, bytesAt, declaredTable}
 use Rattle.form.proofs.Scans.{same-word}
 use Rattle.form.proofs.Words.{Word, word-end, word-part, word-here, word-inside, behind, part-first}
 use Rattle.form.proofs.Names.{distinct-left}
@@ -35,15 +35,6 @@ pub record Header (s : Bytes) (d : Declarations) : Type 0 where
   pub someSymbols : 1 ≤ length (d .symbols)
   pub fewSymbols : length (d .symbols) ≤ 16
   pub symbols : all (λ l. soundSymbol (length (d .variables)) (symbolOf l)) (d .symbols) ≡ true
-
--- what they declare, with the declaring places
-abbrev pub tableOf : Declarations → Table
-tableOf d =
-    record {
-      variables = variableSpans 5 (d .variables);
-      symbols = symbolSpans (length (varsLine (d .variables))) (d .variables) (d .symbols);
-      table = map symbolOf (d .symbols);
-    }
 
 -- the places of names that are written one behind the other hold them
 variable-bytes : (s : Bytes) (p : ℕ) (ws : List Bytes) (rest : Bytes) → drop p s ≡ spaced ws ++ rest → map (bytesAt s) (variableSpans (p + 1) ws) ≡ ws
@@ -127,7 +118,7 @@ module _ (s : Bytes) (d : Declarations) (h : Header s d) where
   unfolding others
   other-lines = ap (drop (length (varsLine (d .variables)))) header-text ∙ drop-append-seam (varsLine (d .variables)) others
 
-pub header-read : (s : Bytes) (d : Declarations) → Header s d → linesOf s ≡ record { step = go (length (header d) + 5); table = tableOf d }
+pub header-read : (s : Bytes) (d : Declarations) → Header s d → linesOf s ≡ record { step = go (length (header d) + 5); table = declaredTable d }
 unfolding header first-line varsTable
 header-read s d h =
     let vs = d .variables in
@@ -136,7 +127,7 @@ header-read s d h =
     ∙ lines-read s vs (all-named s d h .0) (distinct-left vs (symbolNames d) (h .distinct)) 16 (varsTable vs) vs (length (varsLine vs)) (d .symbols)
     (h .rest) g (ap (map (bytesAt s)) (append-nil (variableSpans 5 vs)) ∙ g) (other-lines s d h) (h .stops) (all-named s d h .1) (h .distinct)
     (h .fewSymbols) (omega arith) (h .symbols)
-    ∙ ap (λ q. record { step = go (q + 5); table = tableOf d }) (sym (length-append (varsLine vs) (gather (symLine vs) (d .symbols))))
+    ∙ ap (λ q. record { step = go (q + 5); table = declaredTable d }) (sym (length-append (varsLine vs) (gather (symLine vs) (d .symbols))))
 
 -- the first line as it is found, and then the others
 module _ (s rest : Bytes) (w : Word s 0 varsWord rest) (v : VariablesRead s 4 [] 4) where
@@ -210,8 +201,8 @@ header-found s h = by (header-course s)
     by (faulty f l) = absurd (true≢false (sym (eq-eqb (linesOf s .step .fault) 0 h) ∙ f))
 
 -- the declaring places hold the names
-pub header-names : (s : Bytes) (d : Declarations) → Header s d → (map (bytesAt s) (tableOf d .variables) ≡ d .variables)
-    × (map (bytesAt s) (tableOf d .symbols) ≡ map (λ l. l .name) (d .symbols))
+pub header-names : (s : Bytes) (d : Declarations) → Header s d → (map (bytesAt s) (declaredTable d .variables) ≡ d .variables)
+    × (map (bytesAt s) (declaredTable d .symbols) ≡ map (λ l. l .name) (d .symbols))
 header-names s d h =
     (variables-placed s d h, symbol-places s (length (varsLine (d .variables))) (d .variables) (d .symbols) (matchWord ++ h .rest) (other-lines s d h))
 

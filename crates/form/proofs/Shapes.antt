@@ -14,8 +14,8 @@ use Rattle.pattern.specs.Regex.{Regex}
 use Rattle.form.specs.Text.{Bytes, space, lf, isName, matchWord, Declarations, header, text}
 use Rattle.form.specs.Form.{sameWord, distinct, symbolNames, Shape}
 use Rattle.form.specs.Scan.{at, pastEnd, run, isSpace, spacesEnd}
-use Rattle.form.specs.Lines.{bytesAt, linesOf}
-use Rattle.form.proofs.Header.{Header, tableOf, header-read, header-found, header-names}
+use Rattle.form.specs.Lines.{bytesAt, linesOf, declaredTable}
+use Rattle.form.proofs.Header.{Header, header-read, header-found, header-names}
 use Rattle.form.proofs.Pattern.{Written, pattern-read, pattern-found}
 use Rattle.form.proofs.Faults.{before-end}
 use Rattle.form.proofs.Outcomes.{patternOf, firstOf, Whole}
@@ -45,7 +45,7 @@ begins b (x ∷ l) h e = ap (λ y. y ∷ l) e
 pub record Found (s : Bytes) (d : Declarations) (r : Regex) : Type 0 where
   pub header : Header s d
   pub whole : Whole s
-  pub table : linesOf s .table ≡ tableOf d
+  pub table : linesOf s .table ≡ declaredTable d
   pub tree : patternOf s .tree ≡ r
 
 -- behind the lines that write d

@@ -1,12 +1,12 @@
 -- The course of the reader over the lines before the pattern. Each function takes the place to read from and gives the place to
 -- go on from or the fault: document 01, "What a call hands back", Reading.
-use mathlib.Core.Bool.{Bool, true, false, cond, not}
+use mathlib.Core.Bool.{cond}
 use mathlib.Core.List.{List, [], _∷_, _++_, map}
 use Prim.Native.Nat.{ℕ, zero, suc, _+_, _-_}
 use lib.Dec.{eqb, ltb}
 use lib.ListN.{length}
 use Rattle.meaning.specs.Events.{Place, ignored, names, Symbol}
-use Rattle.form.specs.Text.{Bytes, symWord, matchWord, varsWord, ignoredWord, Span}
+use Rattle.form.specs.Text.{Bytes, symWord, matchWord, varsWord, ignoredWord, Declarations, symbolOf, varsLine, Span, variableSpans, symbolSpans}
 use Rattle.form.specs.Form.{sameWord}
 use Rattle.form.specs.Scan.{Step, go, fail, part, wordEnd, nextWord, nameFault, kindOf}
 
@@ -162,3 +162,12 @@ linesOf s =
     let rest = linesFrom s 16 (record { variables = v .spans; symbols = []; table = [] }) (v .step .place) in
     let lines = cond (eqb (v .step .fault) 0) rest (record { step = v .step; table = noTable }) in
     cond (sameWord (part s 0 e) varsWord) lines (record { step = fail 2 0; table = noTable })
+
+-- what declarations make of it, with the declaring places, where a text writes them
+abbrev pub declaredTable : Declarations → Table
+declaredTable d =
+    record {
+      variables = variableSpans 5 (d .variables);
+      symbols = symbolSpans (length (varsLine (d .variables))) (d .variables) (d .symbols);
+      table = map symbolOf (d .symbols);
+    }

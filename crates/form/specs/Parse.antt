@@ -1,13 +1,13 @@
 -- The course of the reader over a pattern: alternation, sequence and atom, which call one another. The first argument bounds
 -- how deep the calls go; it is more than they can use (../proofs). `used` counts the occurrences read before.
-use mathlib.Core.Bool.{Bool, true, false, cond, _||_}
+use mathlib.Core.Bool.{Bool, cond, _||_}
 use mathlib.Core.List.{List, [], _∷_}
 use Prim.Native.Nat.{ℕ, zero, suc, _+_, _-_, _*_}
 use lib.Dec.{eqb, leb, ltb}
 use lib.ListN.{length, drop}
 use Rattle.pattern.specs.Regex.{Regex, lit, cat, alt, star, plus, opt}
 use Rattle.pattern.specs.Positions.{size}
-use Rattle.form.specs.Text.{Bytes, space, lf, isLower, Span}
+use Rattle.form.specs.Text.{Bytes, space, isLower, Span}
 use Rattle.form.specs.Phrase.{opening, closing, bar, asterisk, plusSign, question}
 use Rattle.form.specs.Scan.{Step, go, fail, at, pastEnd, spacesEnd, nameEnd, part}
 use Rattle.form.specs.Lines.{indexOf}

@@ -1,6 +1,5 @@
 -- The grammar of patterns, over tokens: "An alternation is sequences divided by `|`; a sequence is one or more items; an
 -- item is an atom with any number of `*`, `+`, `?` after it; an atom is a name or an alternation in parentheses."
-use mathlib.Core.Path.{_≡_}
 use mathlib.Core.List.{List, [], _∷_, _++_}
 use Prim.Native.Nat.{ℕ, suc, _<_}
 use lib.ListN.{length, getD}

@@ -1,8 +1,8 @@
 -- The reading of any bytes: the answer's number and place, what the text declares and its pattern. Document 01, "What a call
 -- hands back": "1 first; then the earliest place; at one place the smaller number; 7, then 8, after everything, placed at the
 -- pattern's first token."
-use mathlib.Core.Bool.{Bool, true, false, cond, not}
-use mathlib.Core.List.{List, [], _∷_, _++_}
+use mathlib.Core.Bool.{Bool, cond}
+use mathlib.Core.List.{List}
 use Prim.Native.Nat.{ℕ, _+_}
 use lib.Dec.{eqb, ltb}
 use lib.ListN.{length, getD}
@@ -12,10 +12,10 @@ use Rattle.pattern.specs.Regex.{Regex, nullable, boundBy}
 use Rattle.meaning.specs.Events.{Symbol}
 use Rattle.meaning.specs.Meaning.{Tracematch, noSymbol}
 use Rattle.meaning.specs.Book.{boundIn}
-use Rattle.form.specs.Text.{Bytes, space, lf, Span}
+use Rattle.form.specs.Text.{Bytes, space, lf}
 use Rattle.form.specs.Form.{textLimit}
 use Rattle.form.specs.Scan.{Step, go, fail, at, spacesEnd}
-use Rattle.form.specs.Lines.{Table, noTable, Lines, linesOf}
+use Rattle.form.specs.Lines.{Table, noTable, linesOf}
 use Rattle.form.specs.Parse.{Parsed, failed, unfit, patternFrom}
 
 -- behind the pattern: the LF, and nothing after it

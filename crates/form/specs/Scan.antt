@@ -1,10 +1,10 @@
 -- Scanning: what stands at a place of a text, how far runs of spaces, words and names go, and the gap after a word.
 -- Places count from 0; 256, which is no byte, stands for what lies past the end.
-use mathlib.Core.Bool.{Bool, true, false, cond, not, _&&_, _||_}
-use mathlib.Core.List.{List, [], _∷_}
+use mathlib.Core.Bool.{Bool, cond, not, _&&_, _||_}
+use mathlib.Core.List.{[], _∷_}
 use Prim.Native.Nat.{ℕ, suc, _+_, _-_, _*_}
-use lib.Dec.{eqb, leb, ltb}
-use lib.ListN.{length, getD, take, drop}
+use lib.Dec.{eqb, leb}
+use lib.ListN.{getD, take, drop}
 use Rattle.laws.specs.Lists.{all}
 use Rattle.form.specs.Text.{Bytes, space, lf, isLower, isDigit, isNameByte}
 

@@ -1,8 +1,10 @@
 -- Declarations and the text that writes them: document 01, "The book". The pattern is written apart (Tokens, Phrase).
-use mathlib.Core.Bool.{Bool, true, false, cond, _&&_, _||_}
+use mathlib.Core.Bool.{Bool, false, cond, _&&_, _||_}
 use mathlib.Core.List.{List, [], _∷_, _++_, map}
 use Prim.Native.Nat.{ℕ, _+_, _/_, _%_}
-use lib.Dec.{eqb, leb, ltb}
+use Prim.Native.Char.{code}
+use Prim.Native.String.{String}
+use lib.Dec.{leb, ltb}
 use lib.ListN.{length, getD}
 use Rattle.laws.specs.Lists.{all, gather}
 use Rattle.pattern.specs.Regex.{Regex}
@@ -12,6 +14,11 @@ use Rattle.meaning.specs.Meaning.{Tracematch}
 -- a text, a line, a word, a name: bytes
 abbrev pub Bytes : Type 0
 Bytes = List ℕ
+
+-- the bytes of a text that is written out here: its characters' codes
+abbrev pub ascii : String → Bytes
+ascii String.[] = []
+ascii (String._∷_ c s) = code c ∷ ascii s
 
 -- every element is a byte, as it is in any lent text
 abbrev pub isBytes : Bytes → Bool

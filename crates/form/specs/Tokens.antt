@@ -1,6 +1,6 @@
 -- The tokens of a pattern: a name "read as long as it goes", or one byte that is no space; "between the tokens of a
 -- pattern, and at its ends, spaces are free".
-use mathlib.Core.Bool.{Bool, true, false, cond}
+use mathlib.Core.Bool.{cond}
 use mathlib.Core.List.{List, [], _∷_, _++_}
 use Prim.Native.Nat.{ℕ}
 use lib.Dec.{eqb}

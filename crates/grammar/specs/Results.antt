@@ -1,5 +1,4 @@
 -- The result of reading a part of a pattern as the code has it: the fragment in place of the tree.
-use mathlib.Core.Path.{_≡_}
 use mathlib.Core.Bool.{Bool, cond, _||_}
 use Prim.Native.Nat.{ℕ, suc, _≤_}
 use lib.Dec.{eqb}

@@ -1,7 +1,6 @@
 -- One bit of a number, the number with a single bit set, and the joining and meeting of sets kept one bit to a member.
 -- `join` and `meet` are the code's `|` and `&` behind names of their own, so that no goal unfolds their recursion.
-use mathlib.Core.Bool.{Bool, true, false}
-use mathlib.Core.List.{List}
+use mathlib.Core.Bool.{Bool}
 use Prim.Native.Nat.{ℕ, zero, suc, _/_, _%_, _^_}
 use lib.Bits.{bitAnd, bitOr}
 use lib.Dec.{eqb}

@@ -9,7 +9,7 @@ use lib.Dec.{eqb, leb, ltb}
 use lib.ListN.{length, getD}
 use Rattle.laws.specs.Bits.{bit, join, single}
 use Rattle.laws.specs.Lists.{any, all, numbers}
-use Rattle.pattern.specs.Regex.{Regex, In, nullable, boundBy}
+use Rattle.pattern.specs.Regex.{In, nullable, boundBy}
 use Rattle.pattern.specs.Positions as Positions
 use Rattle.meaning.specs.Events.{Place, ignored, names, Symbol}
 use Rattle.meaning.specs.Meaning.{Tracematch, noSymbol}

@@ -1,6 +1,6 @@
 -- Room: document 01, "No room, exactly: some step set, or some skip set after one of its symbols, exceeds 128; a
 -- variable would have 7 exclusions; or all new labels together exceed 128."
-use mathlib.Core.Bool.{Bool, true, false, _&&_}
+use mathlib.Core.Bool.{Bool, true, _&&_}
 use mathlib.Core.List.{List, [], _∷_, map, List·Memᴰ}
 use Prim.Native.Nat.{ℕ, _≤_, _<_}
 use lib.Dec.{leb}

@@ -1,13 +1,13 @@
 -- The starred roasts of document 01 that are event runs: for each a tracematch, the events sent, and what the watch
 -- answers to each. Books are written as tracematches. The theorem about the whole table is in ../proofs/Starred.antt.
-use mathlib.Core.Bool.{Bool, true, false, cond}
+use mathlib.Core.Bool.{true, false, cond}
 use mathlib.Core.List.{List, [], _∷_}
 use Prim.Native.Nat.{ℕ}
 use Rattle.pattern.specs.Regex.{Regex, lit, cat, star, plus, opt}
 use Rattle.meaning.specs.Events.{Place, ignored, names, Symbol, Event, Valuation}
 use Rattle.meaning.specs.Meaning.{Tracematch}
-use Rattle.meaning.specs.Book.{Book, bookOf}
-use Rattle.meaning.specs.Labels.{Held, heldAt, Entry, bound, free, newHeld}
+use Rattle.meaning.specs.Book.{Book}
+use Rattle.meaning.specs.Labels.{Held, heldAt, bound, free, newHeld}
 use Rattle.meaning.specs.Room.{room}
 use Rattle.meaning.specs.Rows.{rows}
 use Rattle.meaning.specs.Runs.{Call}

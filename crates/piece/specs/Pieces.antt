@@ -1,6 +1,6 @@
 -- The fragment that stands for a regular expression: its masks, and for each of the positions 1 to 31 its symbol and the
 -- positions that follow it; 0 where the position is not one of the fragment's.
-use mathlib.Core.Bool.{Bool, false, cond, _&&_}
+use mathlib.Core.Bool.{false, cond, _&&_}
 use mathlib.Core.List.{List, map}
 use Prim.Native.Nat.{ℕ, _+_}
 use lib.Dec.{leb, ltb}

@@ -1,4 +1,4 @@
-// The listing, for the programs `listing`, `refused` and `short`, which differ only in what the gate runs them on.
+// The listing, for the programs `listing`, `refused`, `short` and `long`, which differ only in what the gate runs them on.
 // `print` reads `book.txt`; a refused text is printed as `book`, number, place. Otherwise it takes the events of
 // standard input, 20 bytes to each, and prints for each its number, the answer and the row count, then its rows.
 use book::Book;

@@ -12,8 +12,7 @@ use Rattle.laws.proofs.Lists.{and-true-split, all-append, all-map, all-at, all-
 use Rattle.meaning.specs.Events.{Symbol}
 use Rattle.meaning.specs.Book.{soundPlace, soundSymbol}
 use Rattle.form.specs.Text.{Bytes, Span, SymbolLine, Declarations, isName, symbolOf, variableSpans, symbolSpans, symLine}
-use Rattle.form.specs.Lines.{Table, linesOf, bytesAt}
-use Rattle.form.proofs.Header as Header
+use Rattle.form.specs.Lines.{Table, linesOf, bytesAt, declaredTable}
 use Rattle.form.proofs.Header.{Header, header-read, header-found, header-names}
 use Rattle.table.specs.Tables.{tableOf, viewTable, inside, Ready}
 use Rattle.table.proofs.Codes.{Fits, view-table}
@@ -61,12 +60,12 @@ module _ (s : Bytes) (d : Declarations) (h : Header s d) where
       let n = length (d .variables) in
       sound-places n y (all-at (soundSymbol n) (all-map (soundSymbol n) symbolOf (d .symbols) ∙ h .symbols) m)
 
-  variables-count : length (Header.tableOf d .variables) ≡ length (d .variables)
-  variables-count = same-count (Header.tableOf d .variables) (d .variables) (variable-sizes 5 (d .variables))
+  variables-count : length (declaredTable d .variables) ≡ length (d .variables)
+  variables-count = same-count (declaredTable d .variables) (d .variables) (variable-sizes 5 (d .variables))
 
-  fits : Fits (Header.tableOf d)
+  fits : Fits (declaredTable d)
   fits =
-      let t = Header.tableOf d in
+      let t = declaredTable d in
       let names = map (λ l. l .name) (d .symbols) in
       let a = same-count (t .symbols) names (symbol-sizes _ (d .variables) (d .symbols)) ∙ length-map (d .symbols) _ in
       let b : length (t .table) ≡ length (d .symbols) = length-map (d .symbols) symbolOf in
@@ -77,12 +76,12 @@ module _ (s : Bytes) (d : Declarations) (h : Header s d) where
         fewPlaces = all-of _ (t .table) λ y m. sound y m .0;
       }
 
-  declared-viewed : viewTable (tableOf (Header.tableOf d)) ≡ Header.tableOf d
-  declared-viewed = view-table (Header.tableOf d) fits
+  declared-viewed : viewTable (tableOf (declaredTable d)) ≡ declaredTable d
+  declared-viewed = view-table (declaredTable d) fits
 
-  in-text : all (inside (length s)) (Header.tableOf d .variables ++ Header.tableOf d .symbols) ≡ true
+  in-text : all (inside (length s)) (declaredTable d .variables ++ declaredTable d .symbols) ≡ true
   in-text =
-      let t = Header.tableOf d in
+      let t = declaredTable d in
       let names = map (λ l. l .name) (d .symbols) in
       let e = header-names s d h in
       let n = and-true-split (all isName (d .variables)) (all isName names) (sym (all-append isName (d .variables) names) ∙ h .named) in
@@ -90,7 +89,7 @@ module _ (s : Bytes) (d : Declarations) (h : Header s d) where
       ∙ ap₂ _&&_ (names-inside s (t .variables) (d .variables) (e .0) (variable-sizes 5 (d .variables)) (n .0))
       (names-inside s (t .symbols) names (e .1) (symbol-sizes _ (d .variables) (d .symbols)) (n .1))
 
-  declared-ready : Ready s (tableOf (Header.tableOf d))
+  declared-ready : Ready s (tableOf (declaredTable d))
   unfolding tableOf
   declared-ready =
       let b = declared-viewed in
@@ -100,7 +99,7 @@ module _ (s : Bytes) (d : Declarations) (h : Header s d) where
         fewVariables = f .fewVariables;
         fewSymbols = f .fewSymbols;
         inText = rw b in-text;
-        declared = rw (b, variables-count) (all-of _ (Header.tableOf d .table) λ y m. sound y m .1);
+        declared = rw (b, variables-count) (all-of _ (declaredTable d .table) λ y m. sound y m .1);
         fewPlaces = rw b (f .fewPlaces);
       }
 

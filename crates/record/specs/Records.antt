@@ -1,7 +1,7 @@
 -- Document 01: "Event record, 20 bytes, no header: byte 0 kind (1 to 255); byte 1 argument count (0 to 4); bytes 2 and 3 zero;
 -- four unsigned 32-bit little-endian arguments, zero beyond the count." And how the code holds an event.
 use mathlib.Core.Bool.{Bool, true, false, cond, _&&_}
-use mathlib.Core.List.{List, [], map}
+use mathlib.Core.List.{List, map}
 use Prim.Native.Nat.{ℕ, _+_, _*_}
 use lib.Dec.{eqb, leb}
 use lib.ListN.{length, getD, take, drop}

@@ -1,7 +1,7 @@
 -- How lent words are read as disjuncts: 128 of them, four variables to each, seven words to a variable. Any words say something.
 use mathlib.Core.Bool.{cond}
-use mathlib.Core.List.{List, _∷_, [], map}
-use Prim.Native.Nat.{ℕ, suc, _+_, _*_}
+use mathlib.Core.List.{List, map}
+use Prim.Native.Nat.{ℕ, _+_, _*_}
 use lib.Dec.{eqb, leb}
 use lib.ListN.{getD, take, drop}
 use Rattle.laws.specs.Lists.{numbers}

@@ -1,5 +1,5 @@
 -- How the code holds what a disjunct says of one variable, and the numbers of a comparison's answers.
-use mathlib.Core.Bool.{Bool, true, false, cond}
+use mathlib.Core.Bool.{true, false, cond}
 use mathlib.Core.List.{List, [], _∷_}
 use Prim.Native.Nat.{ℕ, suc, Ordering, Ordering·lt, Ordering·eq, Ordering·gt}
 use lib.Dec.{ltb}

@@ -3,25 +3,19 @@
 -- of the structs are judged here; the rest through the views, by the definitions of the crate meaning. What no count reaches
 -- (places not taken, exclusions not counted, the value of a free variable, variables beyond the book's) is not judged; nor are the
 -- places of names, which no event call reads, and the number beside an ignored place.
-use mathlib.Core.Bool.{Bool, cond, not, _&&_}
-use mathlib.Core.List.{List, map}
+use mathlib.Core.Bool.{Bool, cond, _&&_}
 use Prim.Native.Nat.{ℕ}
-use lib.Dec.{eqb, leb, ltb}
-use lib.ListN.{length, take}
+use lib.Dec.{leb}
+use lib.ListN.{take}
 use Rattle.laws.specs.Lists.{all}
-use Rattle.laws.specs.Order.{ascending}
-use Rattle.meaning.specs.Book.{soundSymbol, soundMask, soundBook}
-use Rattle.meaning.specs.Labels.{compareHeld}
-use Rattle.meaning.specs.Sound.{soundEntry, soundState, eventLimit}
+use Rattle.meaning.specs.Book.{soundBook}
+use Rattle.meaning.specs.Sound.{soundState}
 use Rattle.table.specs.declared.Symbol.{Symbol}
-use Rattle.table.specs.Tables.{viewSymbol}
 use Rattle.slot.specs.declared.Slot.{Slot}
-use Rattle.slot.specs.Slots.{viewSlot}
-use Rattle.disjunct.specs.declared.Disjunct.{Disjunct}
 use Rattle.book.specs.declared.Book.{Book}
 use Rattle.book.specs.Books.{viewBook}
 use Rattle.state.specs.declared.State.{State}
-use Rattle.state.specs.States.{heldFirst, viewState}
+use Rattle.state.specs.States.{viewState}
 
 -- a symbol whose counts and tags are in range: at most four places, each ignored (0) or a variable (1)
 unfoldable pub symbolCounts : Symbol → Bool

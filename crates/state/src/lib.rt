@@ -3,9 +3,8 @@ use disjunct::Disjunct;
 ghost use mathlib.Core.Path.{_≡_};
 ghost use mathlib.Core.List.{[], map};
 ghost use Prim.Native.Nat.{_≤_, _<_};
-ghost use lib.ListN.{length, take, getD, set};
-ghost use Rattle.disjunct.specs.Disjuncts.{viewDisjunct};
-ghost use Rattle.work.specs.Wide.{wide, wideHeld};
+ghost use lib.ListN.{length, getD, set};
+ghost use Rattle.work.specs.Wide.{wideHeld};
 ghost use Rattle.advance.specs.Held.{heldIn};
 ghost use Rattle.state.specs.States.{stateOf, heldFirst};
 

@@ -24,7 +24,7 @@ use Rattle.meaning.proofs.Bound.{none-left-free}
 use Rattle.form.specs.Text.{Bytes, Declarations, tracematchOf}
 use Rattle.form.specs.Form.{Form}
 use Rattle.form.proofs.Accepted.{form-proper}
-use Rattle.form.proofs.Header as Header
+use Rattle.form.specs.Lines.{declaredTable}
 use Rattle.table.specs.Tables.{placeOf, symbolOf, tableOf}
 use Rattle.record.specs.Records.{isRecord, eventIn}
 use Rattle.book.specs.declared.Book.{Book}
@@ -61,7 +61,7 @@ module _ (text : Bytes) (d : Declarations) (r : Regex) (f : Form text d r) where
   unfolding bookCounts bookFor tableOf
   book-counts =
       let ok = form-proper text d r f in
-      let t = Header.tableOf d .table in
+      let t = declaredTable d .table in
       rw (whole text d r f, le-leb (length t) 16 (ok .few), le-leb (Positions.size r) 31 (ok .occurrences), taken-back, all-map symbolCounts symbolOf t)
       (all-of _ t λ y m. symbol-counts _ y (all-at _ (ok .symbols) m))
 

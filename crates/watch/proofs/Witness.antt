@@ -4,8 +4,6 @@ use mathlib.Core.Path.{_≡_, refl}
 use mathlib.Core.Bool.{true, or-false}
 use mathlib.Core.List.{List, [], _∷_, map}
 use Prim.Native.Nat.{ℕ, zero, suc, _<_}
-use Prim.Native.Char.{code}
-use Prim.Native.String.{String}
 use native.Mathlib.Omega.{arith}
 use borrow.Author.Tests.{eqb-true}
 use lib.Dec.{eqb}
@@ -23,7 +21,7 @@ use Rattle.meaning.specs.Rows.{rows, leavesFree}
 use Rattle.meaning.specs.Runs.{Dependent}
 use Rattle.meaning.specs.Sound.{soundPiece, soundHeld, soundState}
 use Rattle.meaning.proofs.ProperTest.{proper-test}
-use Rattle.form.specs.Text.{Bytes, Declarations, tracematchOf, decimal, header, text as textOf}
+use Rattle.form.specs.Text.{Bytes, ascii, Declarations, tracematchOf, decimal, header, text as textOf}
 use Rattle.form.specs.Phrase.{symbol, plain, plussed, last, then, only}
 use Rattle.form.specs.Form.{Form}
 use Rattle.form.specs.Scan.{spacesEnd, wordEnd, nameEnd, nextWord, nameFault, kindOf}
@@ -40,33 +38,8 @@ use Rattle.sound.specs.Soundness.{symbolCounts, bookCounts, bookSound, slotCoun
 use Rattle.watch.specs.Answers.{numberOf}
 use Rattle.watch.specs.Calls.{freshState, rowsBy, stateBy, leavesFreeBy, roomBy, unsound, outOfForm, tooMany, noRoom, noSpace, answerTo, taken}
 use Rattle.watch.specs.Runs.{Call, event, Made, make, runOf, acceptedIn, recordsOf, Partners, InOrder, Crossed}
+use Rattle.watch.specs.Witness.{text, declared, pattern, tm, load, drop, xs, ys, runX, runY, answers, counts}
 use Rattle.watch.proofs.Crossed.{crossed}
-
--- the bytes of an ASCII text
-abbrev ascii : String → Bytes
-ascii String.[] = []
-ascii (String._∷_ c s) = code c ∷ ascii s
-
--- book B1
-unfoldable pub text : Bytes
-text = ascii "vars d s\nsym load 1 d s\nsym drop 2 d\nsym clean 3 d\nmatch load drop+\n"
-
-abbrev pub declared : Declarations
-declared =
-    record {
-      variables = ascii "d" ∷ ascii "s" ∷ [];
-      symbols =
-          record { name = ascii "load"; kind = 1; places = names 0 ∷ names 1 ∷ [] }
-          ∷ record { name = ascii "drop"; kind = 2; places = names 0 ∷ [] }
-          ∷ record { name = ascii "clean"; kind = 3; places = names 0 ∷ [] }
-          ∷ [];
-    }
-
-abbrev pub pattern : Regex
-pattern = cat (lit 0) (plus (lit 1))
-
-abbrev pub tm : Tracematch
-tm = tracematchOf declared pattern
 
 proper : Proper tm
 unfolding bit join meet single isProper soundSymbol
@@ -93,43 +66,12 @@ form = record {
   binding = proper .binding;
 }
 
--- records of 20 bytes, of arguments below 256
-abbrev load : (x y : ℕ) → Bytes
-load x y = 1 ∷ 2 ∷ 0 ∷ 0 ∷ x ∷ 0 ∷ 0 ∷ 0 ∷ y ∷ replicate 11 0
-
-abbrev drop : ℕ → Bytes
-drop x = 2 ∷ 1 ∷ 0 ∷ 0 ∷ x ∷ replicate 15 0
-
--- a call that lends a record, a buffer of so many bytes, a place in it, and an empty tally
-abbrev call : Bytes → (size place : ℕ) → Call
-call bytes size place = event (record { bytes = bytes; buffer = replicate size 255; place = place; tally = record { accepted = 0; refused = 0; rows = 0 } })
-
-unfoldable pub xs : List Call
-xs = call (load 1 7) 24 0 ∷ call (load 2 8) 24 0 ∷ call (drop 1) 24 0 ∷ call (drop 2) 24 0 ∷ []
-
--- the second call is refused
-unfoldable pub ys : List Call
-ys = call (load 2 8) 24 0 ∷ call (replicate 19 1) 24 0 ∷ call (load 1 7) 24 0 ∷ call (drop 2) 50 25 ∷ call (drop 1) 24 0 ∷ []
-
--- the two runs
-abbrev pub runX : List Made
-runX = runOf (reading text .book) xs
-
-abbrev pub runY : List Made
-runY = runOf (reading text .book) ys
-
 -- the records that they accept
 abbrev sentX : List Bytes
 sentX = load 1 7 ∷ load 2 8 ∷ drop 1 ∷ drop 2 ∷ []
 
 abbrev sentY : List Bytes
 sentY = load 2 8 ∷ load 1 7 ∷ drop 2 ∷ drop 1 ∷ []
-
-abbrev answers : List Made → List ℕ
-answers ms = map (λ m. numberOf (m .taken .answer)) ms
-
-abbrev counts : List Made → List ℕ
-counts ms = map (λ m. m .taken .rows) (acceptedIn ms)
 
 pub computed : (recordsOf runX ≡ sentX) × (recordsOf runY ≡ sentY) × (answers runX ≡ 0 ∷ 0 ∷ 0 ∷ 0 ∷ []) × (answers runY ≡ 0 ∷ 10 ∷ 0 ∷ 0 ∷ 0 ∷ [])
     × (counts runX ≡ 0 ∷ 0 ∷ 1 ∷ 1 ∷ []) × (counts runY ≡ 0 ∷ 0 ∷ 1 ∷ 1 ∷ [])

@@ -1,5 +1,5 @@
 -- "For an answer that is an enum, a definition gives this paper's number and values for each case of the enum."
-use mathlib.Core.Bool.{Bool, true, false, cond}
+use mathlib.Core.Bool.{Bool, cond}
 use mathlib.Core.List.{List, [], _∷_}
 use Prim.Native.Nat.{ℕ}
 use Rattle.watch.specs.declared.Answer.{Answer}

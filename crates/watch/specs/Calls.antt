@@ -1,9 +1,8 @@
 -- One event call, decided whole, for any book, state, record, buffer, place and tally, however filled: the answer, and all that is
 -- handed back or left. The contract of `event` repeats it; the theorems in ../proofs are about it.
-use mathlib.Core.Path.{_≡_}
 use mathlib.Core.Bool.{Bool, true, false, cond, not, _&&_, _||_}
-use mathlib.Core.List.{List, [], _∷_, _++_, map}
-use Prim.Native.Nat.{ℕ, suc, _+_, _*_, _≤_}
+use mathlib.Core.List.{List, [], _∷_, _++_}
+use Prim.Native.Nat.{ℕ, suc, _+_, _*_}
 use lib.Dec.{eqb, ltb}
 use lib.ListN.{length, take}
 use Rattle.laws.specs.Lists.{gather}
@@ -14,9 +13,6 @@ use Rattle.meaning.specs.Labels as Labels
 use Rattle.meaning.specs.Room.{room}
 use Rattle.meaning.specs.Rows.{rows, leavesFree}
 use Rattle.meaning.specs.Sound.{eventLimit}
-use Rattle.work.specs.Wide.{wideValuation}
-use Rattle.work.specs.Bounded.{rowLimit}
-use Rattle.rows.specs.Valuations.{valuationsIn}
 use Rattle.form.specs.Text.{Bytes}
 use Rattle.record.specs.Records.{isRecord, eventIn}
 use Rattle.book.specs.declared.Book.{Book}

@@ -1,7 +1,7 @@
 -- Runs of event calls over one book from the fresh state, and what demands 2 and 3 say of them: document 01, "Crossed messages".
 -- The theorems are in ../proofs.
 use mathlib.Core.Path.{_≡_}
-use mathlib.Core.Bool.{Bool, true, false, cond}
+use mathlib.Core.Bool.{Bool, true, false}
 use mathlib.Core.List.{List, [], _∷_, _++_, map}
 use Prim.Native.Nat.{ℕ, suc, _+_, _-_, _*_, _≤_, _<_}
 use lib.ListN.{length, take, drop, getD}
@@ -20,7 +20,6 @@ use Rattle.state.specs.declared.State.{State}
 use Rattle.writer.specs.RowBytes.{rowBytes}
 use Rattle.tally.specs.declared.Tally.{Tally}
 use Rattle.tally.specs.Tallies.{tallied}
-use Rattle.watch.specs.Answers.{numberOf}
 use Rattle.watch.specs.Calls.{isAccepted, taken, bufferAfter, freshState}
 use Rattle.watch.specs.declared.Taken.{Taken}
 

@@ -1,16 +1,16 @@
 -- The work sets of one event over the lists that the code holds: positions, masks of the positions that follow each, and
 -- disjuncts, the same number of each. A set that may hold only so many elements is `full` once it would hold more.
-use mathlib.Core.Bool.{Bool, true, false, cond, _&&_}
+use mathlib.Core.Bool.{Bool, cond, _&&_}
 use mathlib.Core.List.{List, [], _∷_, _++_, map}
 use Prim.Native.Nat.{ℕ, _*_}
 use lib.Dec.{eqb, leb}
 use lib.ListN.{length, take}
 use Rattle.laws.specs.Bits.{bit}
-use Rattle.laws.specs.Lists.{any, keep, gather}
+use Rattle.laws.specs.Lists.{any, keep}
 use Rattle.laws.specs.Sets.{insertAll, setOf, Grown, full, grown, within, grow, growAll}
 use Rattle.meaning.specs.Events.{Event, Constraint, Valuation, constraintOf}
 use Rattle.meaning.specs.Book.{Book, positions, endsAt, symbolOf}
-use Rattle.meaning.specs.Labels.{Disjunct, Held, sources, heldAt, freeDisjunct, isFree, compareDisjuncts, meets, met, skipOne, skipBy, skipThrough}
+use Rattle.meaning.specs.Labels.{Disjunct, Held, sources, heldAt, freeDisjunct, isFree, compareDisjuncts, meets, met, skipBy, skipThrough}
 use Rattle.meaning.specs.Room.{heldLimit, fewExclusions, setRoom, skipRoom}
 use Rattle.meaning.specs.Rows.{compareValuations, valuationOf}
 

@@ -1,11 +1,10 @@
 -- A disjunct, a valuation and a book with four variables in place of fewer: the further ones are free and have no demands.
 -- The code works with four slots whatever the book declares.
-use mathlib.Core.List.{List, [], map}
-use Prim.Native.Nat.{ℕ}
+use mathlib.Core.List.{[]}
 use Rattle.laws.specs.Parts.{pad}
 use Rattle.meaning.specs.Events.{Valuation}
 use Rattle.meaning.specs.Book.{Book}
-use Rattle.meaning.specs.Labels.{Entry, free, Disjunct, Held}
+use Rattle.meaning.specs.Labels.{free, Disjunct, Held}
 
 -- the further variables free
 unfoldable pub wide : Disjunct → Disjunct
