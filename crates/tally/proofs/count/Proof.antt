@@ -69,10 +69,6 @@ stayed = (stay-ref (0 ∷ []) tt a-tally, (stay-dropped a-number yes, (stay-drop
 abbrev mach : Tally → Val
 mach = LL.val T.the-type T′.the-laws
 
--- the contract that the proof cites
-abbrev Added : {M : Type 1} (𝓤 : URA M) (H : Heap 𝓤) (A : Atoms 𝓤) (mem : Memory → SProp 𝓤) (run : Routine → Fun 𝓤) → Contract 𝓤
-Added 𝓤 H A mem run = tripleOf 𝓤 H A added.signature (added.spec 𝓤 H A mem run)
-
 -- the walk's own words, over the kit's rules
 module _ {M : Type 1} {𝓤 : URA M} {H : Heap 𝓤} {A : Atoms 𝓤} {K : Type 0} {W : Given 𝓤 H A} {Γ : List (Item 𝓤)} where
   -- a local is copied: entry n of the context is its cell
@@ -92,139 +88,140 @@ module _ {M : Type 1} {𝓤 : URA M} {H : Heap 𝓤} {A : Atoms 𝓤} {K : Type 
     abbrev number-had : K → (n : ℕ) → n < 2 ^ 64 → Step K W (‵ (u64 .own n (vint w64 n ∷ [])) ∷ Γ) G Γ G
     number-had t n fits = owned t u64 (Is u64) (uint-makes 𝓤 H A W w64) n (vint w64 n ∷ []) (refl, fits)
 
-module _ {M : Type 1} (𝓤 : URA M) (H : Heap 𝓤) (A : Atoms 𝓤) (W : Given 𝓤 H A) (at-mem : Memory → SProp 𝓤) (run : Routine → Fun 𝓤)
-    (κ : Lft) (q : Share) (b o : ℕ) (γ : GName) (h : Tally)
-    (x y z : ℕ) (x-fits : x < 2 ^ 64) (y-fits : y < 2 ^ 64) (z-fits : z < 2 ^ 64) where
-  abbrev Arg : Type 0
-  Arg = RefT Tally × (ℕ × (ℕ × (ℕ × Unit {0})))
-
-  abbrev a : Arg
-  a = (record { ptr = (b, o); name = γ; now = h }, (x, (y, (z, tt))))
-
-  -- the machine values passed, with v for the first
-  abbrev at : Val → List Val × (List Val × (List Val × (List Val × Unit {0})))
-  at v = (v ∷ [], (vint w64 x ∷ [], (vint w64 y ∷ [], (vint w64 z ∷ [], tt))))
-
-  abbrev given-values : List Val
-  given-values = vptr b o ∷ vint w64 x ∷ vint w64 y ∷ vint w64 z ∷ []
-
+module _ {M : Type 1} (𝓤 : URA M) (H : Heap 𝓤) (A : Atoms 𝓤) (at-mem : Memory → SProp 𝓤) (run : Routine → Fun 𝓤) where
   abbrev clauses : Clauses 𝓤 count.ended
   clauses = count.clauses 𝓤 H A at-mem run
 
-  -- what `count`'s own triple binds outside, and what is to hold at the end
-  abbrev bound : walkOf 𝓤 H A count.ended stayed clauses .Ghost
-  bound = (((κ, tt), (q, tt), tt, a, at (vptr b o)), tt)
+  -- the contract that the proof cites
+  abbrev Added : Contract 𝓤
+  Added = tripleOf 𝓤 H A added.signature (added.spec 𝓤 H A at-mem run)
 
-  abbrev Post : Val → SProp 𝓤
-  Post = walkOf 𝓤 H A count.ended stayed clauses .post bound
+  module _ (W : Given 𝓤 H A) (κ : Lft) (q : Share) (b o : ℕ) (γ : GName) (h : Tally)
+      (x y z : ℕ) (x-fits : x < 2 ^ 64) (y-fits : y < 2 ^ 64) (z-fits : z < 2 ^ 64) where
+    abbrev a : RefT Tally × (ℕ × (ℕ × (ℕ × Unit {0})))
+    a = (record { ptr = (b, o); name = γ; now = h }, (x, (y, (z, tt))))
 
-  -- what is left at the end, with the tally at r: [obs; the borrow; the token]
-  abbrev left : Tally → List (Item 𝓤)
-  left r = ‵ (fobs γ (T.the-row .coded .code r)) ∷ ‵ (fbor κ (Body (mem T.the-row) b o γ)) ∷ ‵ (flft κ q) ∷ []
+    -- the machine values passed, with v for the first
+    abbrev at : Val → List Val × (List Val × (List Val × (List Val × Unit {0})))
+    at v = (v ∷ [], (vint w64 x ∷ [], (vint w64 y ∷ [], (vint w64 z ∷ [], tt))))
 
-  exits : (r : Tally) → r ≡ tallied h x y z → ent 𝓤 (⋆ 𝓤 H A (left r)) (Post vunit)
-  exits r e =
-      qed W (left r) ∵
-      suffices ! _ (ends-at 𝓤 H A count.ended stayed clauses W bound vunit tt (r, (tt, (tt, (tt, tt)))) (tt, (tt, (tt, (tt, tt))))) $
-      says ! e $
-      nothing ! $ move ! (3 ∷ 0 ∷ []) $ join ! $ frame ! $
-      feqI ! (List Val) (vptr b o ∷ []) (vptr b o ∷ []) refl $ fjoin3 ! $
-      nothing ! $ nothing ! $ fjoin ! $ nothing ! $ fjoin ! $ nothing ! $ fjoin ! $ move ! (1 ∷ 0 ∷ []) $ fjoin ! $
-      feqI ! (List Val) (vunit ∷ []) (vunit ∷ []) refl $ move ! (1 ∷ 0 ∷ []) $ done !
+    abbrev given-values : List Val
+    given-values = vptr b o ∷ vint w64 x ∷ vint w64 y ∷ vint w64 z ∷ []
 
-  -- what is passed to `added`, and what its triple binds outside
-  abbrev to : Tally × (ℕ × (ℕ × (ℕ × Unit {0})))
-  to = (h, (x, (y, (z, tt))))
+    -- what `count`'s own triple binds outside, and what is to hold at the end
+    abbrev bound : walkOf 𝓤 H A count.ended stayed clauses .Ghost
+    bound = (((κ, tt), (q, tt), tt, a, at (vptr b o)), tt)
 
-  abbrev to-added : Added 𝓤 H A at-mem run .Ghost
-  to-added = ((tt, tt, tt, to, at (mach h)), tt)
+    abbrev Post : Val → SProp 𝓤
+    Post = walkOf 𝓤 H A count.ended stayed clauses .post bound
 
-  -- what `added` ensures of the tally r, and what it hands back with the machine value w
-  abbrev promised : Tally → SProp 𝓤
-  promised r = ensured 𝓤 H A added.ended (added.clauses 𝓤 H A at-mem run) tt to tt r
+    -- what is left at the end, with the tally at r: [obs; the borrow; the token]
+    abbrev left : Tally → List (Item 𝓤)
+    left r = ‵ (fobs γ (T.the-row .coded .code r)) ∷ ‵ (fbor κ (Body (mem T.the-row) b o γ)) ∷ ‵ (flft κ q) ∷ []
 
-  abbrev back : Val → Item 𝓤
-  back w = later (some (λ (r : Tally). (‵ ftrue ⊛ ‵ (T.the-row .own r (w ∷ []))) ⊛ raw (promised r)))
+    exits : (r : Tally) → r ≡ tallied h x y z → ent 𝓤 (⋆ 𝓤 H A (left r)) (Post vunit)
+    exits r e =
+        qed W (left r) ∵
+        suffices ! _ (ends-at 𝓤 H A count.ended stayed clauses W bound vunit tt (r, (tt, (tt, (tt, tt)))) (tt, (tt, (tt, (tt, tt))))) $
+        says ! e $
+        nothing ! $ move ! (3 ∷ 0 ∷ []) $ join ! $ frame ! $
+        feqI ! (List Val) (vptr b o ∷ []) (vptr b o ∷ []) refl $ fjoin3 ! $
+        nothing ! $ nothing ! $ fjoin ! $ nothing ! $ fjoin ! $ nothing ! $ fjoin ! $ move ! (1 ∷ 0 ∷ []) $ fjoin ! $
+        feqI ! (List Val) (vunit ∷ []) (vunit ∷ []) refl $ move ! (1 ∷ 0 ∷ []) $ done !
 
-  -- all that `added` takes is plain data
-  goes : Is T.the-row h (mach h ∷ []) → ent 𝓤 (emp 𝓤) (Added 𝓤 H A at-mem run .pre to-added)
-  goes g =
-      qed W [] ∵ nothing ! $ number-had ! z z-fits $ fjoin ! $ number-had ! y y-fits $ fjoin ! $ number-had ! x x-fits $ fjoin ! $
-      tally-had ! h g $ fjoin ! $ nothing ! $ join ! $ frame ! $ done !
+    -- what is passed to `added`, and what its triple binds outside
+    abbrev to : Tally × (ℕ × (ℕ × (ℕ × Unit {0})))
+    to = (h, (x, (y, (z, tt))))
 
-  -- of what `added` ensures, the clause alone: it has no `&mut`, so what is said of last values is dropped
-  says-added : (r : Tally) → ent 𝓤 (promised r) (fact 𝓤 (r ≡ tallied h x y z))
-  says-added r = exE 𝓤 _ (λ ws. snd∗ 𝓤 (sem 𝓤 H A (lasts added.ended tt to ws)) (fact 𝓤 (r ≡ tallied h x y z)))
+    abbrev to-added : Added .Ghost
+    to-added = ((tt, tt, tt, to, at (mach h)), tt)
 
-  typed : (r : Tally) (v : Val) → Is T.the-row r (v ∷ []) → Holds (hasTy T′.mir v) × WT v
-  typed r v is = LL.lawful T.the-type T′.the-laws 𝓤 H A W .typed r _ is .0
+    -- what `added` ensures of the tally r, and what it hands back with the machine value w
+    abbrev promised : Tally → SProp 𝓤
+    promised r = ensured 𝓤 H A added.ended (added.clauses 𝓤 H A at-mem run) tt to tt r
 
-  module _ (C : Calls 𝓤 H) (Λ : Loops 𝓤 H) (fm : FmC 𝓤 H (W .laws) C)
-      (known : Triple 𝓤 (C #tally·Tally·added) (Added 𝓤 H A at-mem run)) where
-    walk : ent 𝓤 (onEntry 𝓤 H A count.signature (κ, tt) (q, tt) a (at (vptr b o))) (WpFn 𝓤 H C Λ code.function given-values Post)
-    walk =
-        qed W ((‵ (flft κ q) ⊛ ‵ ftrue) ∷ ‵ (owns (MutRef (named 0) κ T.the-row ∷ u64 ∷ u64 ∷ u64 ∷ []) a (at (vptr b o))) ∷ []) ∵
-        split ! $ move ! (2 ∷ []) $ fsplit ! $ fsplit3 ! $ drop ! $ keep ! (0 ∷ 1 ∷ 3 ∷ []) $
-        -- [obs; the borrow; the token]
-        enter ! C Λ code.function given-values _ $
-        alloc1 ! (λ l₀. alloc1 ! (λ l₁. alloc1 ! (λ l₂. alloc1 ! (λ l₃. alloc1 ! (λ l₄. alloc1 ! (λ l₅. alloc1 ! (λ l₆. alloc0 ! $
-        params1 ! $ pass1 ! (init ! 10 refl (tt, tt)) $
-        pass1 ! (init ! 8 refl (tt, record { fits = x-fits })) $
-        pass1 ! (init ! 6 refl (tt, record { fits = y-fits })) $
-        pass1 ! (init ! 4 refl (tt, record { fits = z-fits })) $ pass0 ! $
-        -- the borrow is opened: the tally lies there whole
-        move ! (14 ∷ 15 ∷ 16 ∷ []) $ opens ! tt T.the-row {h = h} b o (λ vs.
-        spelt ! T.the-row (Is T.the-row) (shows 𝓤 H A T.the-row) (LL.vals T.the-type T′.the-laws) (LL.tells T.the-type T′.the-laws)
-        fullShare h vs b o $
-        move ! (1 ∷ []) $ shown ! T.the-row h (mach h) (λ g.
-        -- [the tally's cell; the open borrow; obs; auth; _6; …; _5; …; _4; …; _3; …; _2; …; _1; …; room for _0; …]
-        assigns ! (of-opd ! (load ! (from ! (hop ! (look ! 14 refl) (stop !))) (look-raw ! 0 refl))) (from ! (stop !))
-        (init ! 4 refl (typed h _ g)) $
-        -- `added` is called with it and with the numbers
-        use0 W (raw (Added 𝓤 H A at-mem run .pre to-added)) (goes g) $
-        calls-at ! fm (Added 𝓤 H A at-mem run) known to-added
-        (and-then ! (local ! 5 refl) (and-then ! (local ! 13 refl)
-        (and-then ! (local ! 11 refl) (and-then ! (local ! 9 refl) (no-more !))))) (λ w.
-        use1 W (back w) (id⊢ 𝓤 _) $ await ! tt $ pick ! (λ r.
-        split ! $ move ! (1 ∷ []) $ use1 W (raw (fact 𝓤 (r ≡ tallied h x y z))) (says-added r) $ heard ! (r ≡ tallied h x y z) (λ e.
-        split ! $ drop ! $ shown ! T.the-row r w (λ is.
-        -- what it returned is stored
-        land ! (from ! (stop !)) (init ! 6 refl (typed r w is)) $
-        assigns ! (of-opd ! (local ! 6 refl)) (from ! (hop ! (look ! 14 refl) (stop !))) (store-raw ! 0 refl (typed r w is)) $
-        assigns ! (of-opd ! (unit-lit !)) (from ! (stop !)) (init ! 16 refl (tt, tt)) $
-        tally-had ! r is $ move ! (1 ∷ 0 ∷ []) $ closes ! tt T.the-row r (w ∷ []) b o $
-        -- [obs; the borrow; the token; _6; …; _5; …; _4; …; _3; …; _2; …; _1; …; _0; …]
-        returns ! (look ! 15 refl) $
-        forget ! 3 refl $ forget ! 5 refl $ forget ! 7 refl $ forget ! 9 refl $ forget ! 11 refl $ forget ! 13 refl $ forget ! 15 refl $
-        move ! (15 ∷ 16 ∷ []) $ free1 ! $ move ! (13 ∷ 14 ∷ []) $ free1 ! $ move ! (11 ∷ 12 ∷ []) $ free1 ! $
-        move ! (9 ∷ 10 ∷ []) $ free1 ! $ move ! (7 ∷ 8 ∷ []) $ free1 ! $ move ! (5 ∷ 6 ∷ []) $ free1 ! $
-        move ! (3 ∷ 4 ∷ []) $ free1 ! $ free0 ! $
-        keep ! (0 ∷ 1 ∷ 2 ∷ []) $ by ! (exits r e))))))))))))))
+    abbrev back : Val → Item 𝓤
+    back w = later (some (λ (r : Tally). (‵ ftrue ⊛ ‵ (T.the-row .own r (w ∷ []))) ⊛ raw (promised r)))
 
-module _ {M : Type 1} (𝓤 : URA M) (H : Heap 𝓤) (A : Atoms 𝓤) (W : Given 𝓤 H A) (at-mem : Memory → SProp 𝓤) (run : Routine → Fun 𝓤) where
-  count-walks : (C : Calls 𝓤 H) (Λ : Loops 𝓤 H) → FmC 𝓤 H (W .laws) C → Triple 𝓤 (C #tally·Tally·added) (Added 𝓤 H A at-mem run)
-      → Walks 𝓤 H A count.ended stayed (WpFn 𝓤 H C Λ code.function) (count.clauses 𝓤 H A at-mem run)
-  count-walks C Λ fm known =
-      walked 𝓤 H A count.ended stayed (count.clauses 𝓤 H A at-mem run) (WpFn 𝓤 H C Λ code.function)
-      (λ κs. (ptr-vals, (uint-vals w64, (uint-vals w64, (uint-vals w64, tt)))))
-      (λ κs. (mut-tells (named 0) (κs .0) T.the-row, (uint-tells w64, (uint-tells w64, (uint-tells w64, tt)))))
-      (λ κs qs bounds a _ are.
-      via 𝓤 _ (fst∗ 𝓤 _ (emp 𝓤))
-      (walk 𝓤 H A W at-mem run (κs .0) (qs .0) (a .0 .ptr .0) (a .0 .ptr .1) (a .0 .name) (a .0 .now) (a .1 .0) (a .1 .1 .0) (a .1 .1 .1 .0)
-      (are .1 .0 .1) (are .1 .1 .0 .1) (are .1 .1 .1 .0 .1) C Λ fm known))
+    -- all that `added` takes is plain data
+    goes : Is T.the-row h (mach h ∷ []) → ent 𝓤 (emp 𝓤) (Added .pre to-added)
+    goes g =
+        qed W [] ∵ nothing ! $ number-had ! z z-fits $ fjoin ! $ number-had ! y y-fits $ fjoin ! $ number-had ! x x-fits $ fjoin ! $
+        tally-had ! h g $ fjoin ! $ nothing ! $ join ! $ frame ! $ done !
 
-  each-goes : AllGo 𝓤 H A W 1 (count.signature .params) (count.ended .kept) stayed
-  each-goes =
-      let number-goes = goes-dropped 𝓤 H A W 1 a-number yes (λ κs x f. refl) in
-      (goes-ref 𝓤 H A W 1 0 tt a-tally, (number-goes, (number-goes, (number-goes, tt))))
+    -- of what `added` ensures, the clause alone: it has no `&mut`, so what is said of last values is dropped
+    says-added : (r : Tally) → ent 𝓤 (promised r) (fact 𝓤 (r ≡ tallied h x y z))
+    says-added r = exE 𝓤 _ (λ ws. snd∗ 𝓤 (sem 𝓤 H A (lasts added.ended tt to ws)) (fact 𝓤 (r ≡ tallied h x y z)))
+
+    typed : (r : Tally) (v : Val) → Is T.the-row r (v ∷ []) → Holds (hasTy T′.mir v) × WT v
+    typed r v is = LL.lawful T.the-type T′.the-laws 𝓤 H A W .typed r _ is .0
+
+    module _ (C : Calls 𝓤 H) (Λ : Loops 𝓤 H) (fm : FmC 𝓤 H (W .laws) C)
+        (known : Triple 𝓤 (C #tally·Tally·added) Added) where
+      walk : ent 𝓤 (onEntry 𝓤 H A count.signature (κ, tt) (q, tt) a (at (vptr b o))) (WpFn 𝓤 H C Λ code.function given-values Post)
+      walk =
+          qed W ((‵ (flft κ q) ⊛ ‵ ftrue) ∷ ‵ (owns (MutRef (named 0) κ T.the-row ∷ u64 ∷ u64 ∷ u64 ∷ []) a (at (vptr b o))) ∷ []) ∵
+          split ! $ move ! (2 ∷ []) $ fsplit ! $ fsplit3 ! $ drop ! $ keep ! (0 ∷ 1 ∷ 3 ∷ []) $
+          -- [obs; the borrow; the token]
+          enter ! C Λ code.function given-values _ $
+          alloc1 ! (λ l₀. alloc1 ! (λ l₁. alloc1 ! (λ l₂. alloc1 ! (λ l₃. alloc1 ! (λ l₄. alloc1 ! (λ l₅. alloc1 ! (λ l₆. alloc0 ! $
+          params1 ! $ pass1 ! (init ! 10 refl (tt, tt)) $
+          pass1 ! (init ! 8 refl (tt, record { fits = x-fits })) $
+          pass1 ! (init ! 6 refl (tt, record { fits = y-fits })) $
+          pass1 ! (init ! 4 refl (tt, record { fits = z-fits })) $ pass0 ! $
+          -- the borrow is opened: the tally lies there whole
+          move ! (14 ∷ 15 ∷ 16 ∷ []) $ opens ! tt T.the-row {h = h} b o (λ vs.
+          spelt ! T.the-row (Is T.the-row) (shows 𝓤 H A T.the-row) (LL.vals T.the-type T′.the-laws) (LL.tells T.the-type T′.the-laws)
+          fullShare h vs b o $
+          move ! (1 ∷ []) $ shown ! T.the-row h (mach h) (λ g.
+          -- [the tally's cell; the open borrow; obs; auth; _6; …; _5; …; _4; …; _3; …; _2; …; _1; …; room for _0; …]
+          assigns ! (of-opd ! (load ! (from ! (hop ! (look ! 14 refl) (stop !))) (look-raw ! 0 refl))) (from ! (stop !))
+          (init ! 4 refl (typed h _ g)) $
+          -- `added` is called with it and with the numbers
+          use0 W (raw (Added .pre to-added)) (goes g) $
+          calls-at ! fm Added known to-added
+          (and-then ! (local ! 5 refl) (and-then ! (local ! 13 refl)
+          (and-then ! (local ! 11 refl) (and-then ! (local ! 9 refl) (no-more !))))) (λ w.
+          use1 W (back w) (id⊢ 𝓤 _) $ await ! tt $ pick ! (λ r.
+          split ! $ move ! (1 ∷ []) $ use1 W (raw (fact 𝓤 (r ≡ tallied h x y z))) (says-added r) $ heard ! (r ≡ tallied h x y z) (λ e.
+          split ! $ drop ! $ shown ! T.the-row r w (λ is.
+          -- what it returned is stored
+          land ! (from ! (stop !)) (init ! 6 refl (typed r w is)) $
+          assigns ! (of-opd ! (local ! 6 refl)) (from ! (hop ! (look ! 14 refl) (stop !))) (store-raw ! 0 refl (typed r w is)) $
+          assigns ! (of-opd ! (unit-lit !)) (from ! (stop !)) (init ! 16 refl (tt, tt)) $
+          tally-had ! r is $ move ! (1 ∷ 0 ∷ []) $ closes ! tt T.the-row r (w ∷ []) b o $
+          -- [obs; the borrow; the token; _6; …; _5; …; _4; …; _3; …; _2; …; _1; …; _0; …]
+          returns ! (look ! 15 refl) $
+          forget ! 3 refl $ forget ! 5 refl $ forget ! 7 refl $ forget ! 9 refl $ forget ! 11 refl $ forget ! 13 refl $ forget ! 15 refl $
+          move ! (15 ∷ 16 ∷ []) $ free1 ! $ move ! (13 ∷ 14 ∷ []) $ free1 ! $ move ! (11 ∷ 12 ∷ []) $ free1 ! $
+          move ! (9 ∷ 10 ∷ []) $ free1 ! $ move ! (7 ∷ 8 ∷ []) $ free1 ! $ move ! (5 ∷ 6 ∷ []) $ free1 ! $
+          move ! (3 ∷ 4 ∷ []) $ free1 ! $ free0 ! $
+          keep ! (0 ∷ 1 ∷ 2 ∷ []) $ by ! (exits r e))))))))))))))
+
+  module _ (W : Given 𝓤 H A) where
+    count-walks : (C : Calls 𝓤 H) (Λ : Loops 𝓤 H) → FmC 𝓤 H (W .laws) C → Triple 𝓤 (C #tally·Tally·added) Added
+        → Walks 𝓤 H A count.ended stayed (WpFn 𝓤 H C Λ code.function) clauses
+    count-walks C Λ fm known =
+        walked 𝓤 H A count.ended stayed clauses (WpFn 𝓤 H C Λ code.function)
+        (λ κs. (ptr-vals, (uint-vals w64, (uint-vals w64, (uint-vals w64, tt)))))
+        (λ κs. (mut-tells (named 0) (κs .0) T.the-row, (uint-tells w64, (uint-tells w64, (uint-tells w64, tt)))))
+        (λ κs qs bounds a _ are.
+        via 𝓤 _ (fst∗ 𝓤 _ (emp 𝓤))
+        (walk W (κs .0) (qs .0) (a .0 .ptr .0) (a .0 .ptr .1) (a .0 .name) (a .0 .now) (a .1 .0) (a .1 .1 .0) (a .1 .1 .1 .0)
+        (are .1 .0 .1) (are .1 .1 .0 .1) (are .1 .1 .1 .0 .1) C Λ fm known))
+
+    each-goes : AllGo 𝓤 H A W 1 (count.signature .params) (count.ended .kept) stayed
+    each-goes =
+        let number-goes = goes-dropped 𝓤 H A W 1 a-number yes (λ κs x f. refl) in
+        (goes-ref 𝓤 H A W 1 0 tt a-tally, (number-goes, (number-goes, (number-goes, tt))))
 
 count-meets : {M : Type 1} (𝓤 : URA M) (H : Heap 𝓤) (A : Atoms 𝓤) → Given 𝓤 H A → (mem : Memory → SProp 𝓤) (run : Routine → Fun 𝓤)
     (𝓣 : Tables 𝓤 H) → Triple 𝓤 (𝓣 .C #tally·Tally·added) (Added 𝓤 H A mem run)
     → Meets 𝓤 H A count.signature (WpFn 𝓤 H (𝓣 .C) (𝓣 .Λ) code.function) (count.spec 𝓤 H A mem run)
 count-meets 𝓤 H A W mem run 𝓣 known =
-    walk-meets 𝓤 H A count.ended stayed W (each-goes 𝓤 H A W mem run) (count.clauses 𝓤 H A mem run)
+    walk-meets 𝓤 H A count.ended stayed W (each-goes 𝓤 H A mem run W) (count.clauses 𝓤 H A mem run)
     (WpFn 𝓤 H (𝓣 .C) (𝓣 .Λ) code.function) (WpFn-mono 𝓤 H (W .laws) 𝓣 code.function)
-    (count-walks 𝓤 H A W mem run (𝓣 .C) (𝓣 .Λ) (fmOf 𝓤 H (W .laws) 𝓣) known)
+    (count-walks 𝓤 H A mem run W (𝓣 .C) (𝓣 .Λ) (fmOf 𝓤 H (W .laws) 𝓣) known)
 
 pub count-spec : {M : Type 1} → stated.statement M
 unfolding code.routine tablesOf
