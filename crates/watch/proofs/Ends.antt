@@ -71,7 +71,12 @@ module _ (b : Book) (s : State) (r buffer : Bytes) (place : ℕ) where
   abbrev last : Answer
   last = cond (noSpace b s r buffer place) NoSpace Accepted
 
-  answer-refused : (stepNumber b s r ≡ 0 → ⊥) → (answerTo b s r buffer place ≡ answerOf (stepNumber b s r)) × (isAccepted (answerTo b s r buffer place) ≡ false)
+  -- the rows of the event, as the rules have them
+  abbrev its-rows : List Valuation
+  its-rows = rowsBy b s (eventIn r)
+
+  answer-refused : (stepNumber b s r ≡ 0 → ⊥)
+      → (answerTo b s r buffer place ≡ answerOf (stepNumber b s r)) × (isAccepted (answerTo b s r buffer place) ≡ false)
   unfolding answerTo
   answer-refused h = four-refused (unsound b s r) (outOfForm b s r) (tooMany b s r) (noRoom b s r) last h
 
@@ -84,7 +89,8 @@ module _ (b : Book) (s : State) (r buffer : Bytes) (place : ℕ) where
   refusal t n = record { answer = answerOf n; rows = 0; book = b; state = s; tally = tallied t 0 1 0 }
 
   -- a refusal, whatever its number
-  ends-not : (t : Tally) (n : ℕ) → answerTo b s r buffer place ≡ answerOf n → isAccepted (answerTo b s r buffer place) ≡ false → {x : Taken} → x ≡ refusal t n
+  ends-not : (t : Tally) (n : ℕ) → answerTo b s r buffer place ≡ answerOf n → isAccepted (answerTo b s r buffer place) ≡ false
+      → {x : Taken} → x ≡ refusal t n
       → (x ≡ taken b s r buffer place t) × (buffer ≡ bufferAfter b s r buffer place)
   unfolding taken bufferAfter
   ends-not t n h k e = (e ∙ rw (k, h), rw k)
@@ -98,45 +104,49 @@ module _ (b : Book) (s : State) (r buffer : Bytes) (place : ℕ) where
 
   -- the state after an accepted event and the words that hold its rows
   module _ (passed : stepNumber b s r ≡ 0) (next : State) (n : ℕ) (words : List ℕ) (moved : Moved b s (eventIn r) next n words) where
+    -- the answer is that of the buffer's check, by what that finds
+    told : {x : Bool} → noSpace b s r buffer place ≡ x → answerTo b s r buffer place ≡ cond x NoSpace Accepted
+    told e = answer-passed passed ∙ ap (λ x. cond x NoSpace Accepted) e
+
     -- refused by the buffer's check
     pub ends-short : (t : Tally) → leb (place + 24 * n) (length buffer) ≡ false → {x : Taken} → x ≡ refusal t 13
         → (x ≡ taken b s r buffer place t) × (buffer ≡ bufferAfter b s r buffer place)
     unfolding noSpace answerOf
     ends-short t h =
         let k = leb-false (place + 24 * n) (length buffer) h in
-        let a : answerTo b s r buffer place ≡ NoSpace =
-        answer-passed passed ∙ ap (λ x. cond x NoSpace Accepted) (lt-ltb (length buffer) (place + 24 * length (rowsBy b s (eventIn r))) (rw (← moved .counted) k)) in
+        let a = told (lt-ltb (length buffer) (place + 24 * length its-rows) (rw (← moved .counted) k)) in
         ends-not t 13 a (ap isAccepted a)
 
     accepted : leb (place + 24 * n) (length buffer) ≡ true → answerTo b s r buffer place ≡ Accepted
     unfolding noSpace
     accepted h =
         let k = leb-true (place + 24 * n) (length buffer) h in
-        answer-passed passed ∙ ap (λ x. cond x NoSpace Accepted) (le-ltb (length buffer) (place + 24 * length (rowsBy b s (eventIn r))) (rw (← moved .counted) k))
+        told (le-ltb (length buffer) (place + 24 * length its-rows) (rw (← moved .counted) k))
 
     next-number : next .number ≡ suc (s .number)
     unfolding stateBy stateOf viewState
     next-number = ap (λ x. x .number) (moved .after)
 
     -- a row has at most four values, as the words that hold it
-    row-few : (σ : Valuation) → List·Memᴰ σ (rowsBy b s (eventIn r)) → length σ ≤ 4
+    row-few : (σ : Valuation) → List·Memᴰ σ its-rows → length σ ≤ 4
     unfolding wideValuation
     row-few σ m =
-        pad-few 4 0 σ
-        (Words.wide-in words (wideValuation σ) (mem-take n (rw (moved .listed) (mem-map wideValuation (wideValuation σ) (rowsBy b s (eventIn r)) .1 (σ, m, refl)))))
+        let among = mem-map wideValuation (wideValuation σ) its-rows .1 (σ, m, refl) in
+        pad-few 4 0 σ (Words.wide-in words (wideValuation σ) (mem-take n (rw (moved .listed) among)))
 
-    rows-written : gather (rowBytes (next .number) (b .variables)) (take n (valuationsIn words)) ≡ gather (rowBytes (suc (s .number)) (b .variables)) (rowsBy b s (eventIn r))
+    rows-written : gather (rowBytes (next .number) (b .variables)) (take n (valuationsIn words))
+        ≡ gather (rowBytes (suc (s .number)) (b .variables)) its-rows
     unfolding wideValuation
     rows-written =
         let f = rowBytes (suc (s .number)) (b .variables) in
-        let l = rowsBy b s (eventIn r) in
-        ap₂ (λ k x. gather (rowBytes k (b .variables)) x) next-number (moved .listed) ∙ gather-map f wideValuation l
-        ∙ gather-agree (λ σ. f (wideValuation σ)) f l (λ σ m. row-wide (suc (s .number)) (b .variables) σ (row-few σ m))
+        ap₂ (λ k x. gather (rowBytes k (b .variables)) x) next-number (moved .listed) ∙ gather-map f wideValuation its-rows
+        ∙ gather-agree (λ σ. f (wideValuation σ)) f its-rows (λ σ m. row-wide (suc (s .number)) (b .variables) σ (row-few σ m))
 
     -- accepted
     pub ends-accepted : (t : Tally) → leb (place + 24 * n) (length buffer) ≡ true → {u : Tally} → u ≡ tallied t 1 0 n
         → {out : Bytes} → out ≡ splice place (gather (rowBytes (next .number) (b .variables)) (take n (valuationsIn words))) buffer
-        → (record { answer = Accepted; rows = n; book = b; state = next; tally = u } ≡ taken b s r buffer place t) × (out ≡ bufferAfter b s r buffer place)
+        → (record { answer = Accepted; rows = n; book = b; state = next; tally = u } ≡ taken b s r buffer place t)
+        × (out ≡ bufferAfter b s r buffer place)
     unfolding taken bufferAfter
     ends-accepted t h e f =
         let a = accepted h in

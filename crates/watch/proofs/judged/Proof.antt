@@ -35,7 +35,8 @@ leaves-free-requires c κs =
     let p = cs .before .before .before .pre in
     let b = book-facts _ (p .0) in
     let s = state-facts _ _ (p .1) in
-    (s .count, b .counts, b .view, masks-known _ _ b s _ _ (load .load .ensures) _ (masks .follow-masks .ensures), cs .constraints .ensures .1)
+    let followed = masks-known _ _ b s _ _ (load .load .ensures) _ (masks .follow-masks .ensures) in
+    (s .count, b .counts, b .view, followed, cs .constraints .ensures .1)
 
 refusal-requires : tie.Need-refusal-requires
 refusal-requires c κs = search needs
@@ -46,8 +47,10 @@ returns c =
     let load = test .before .before .before .before .before .before .before in
     let cs = load .before .before .before in
     let p = cs .before .before .before .pre in
-    free-ends _ _ (book-facts _ (p .0)) (state-facts _ _ (p .1)) _ _ (load .load .ensures) _ _ (test .leaves-free .ensures _ (constraints-known _ _ _ (cs .constraints .ensures .0)))
-    (c .before .if1 .taken) (c .refusal .ensures .0)
+    let b = book-facts _ (p .0) in
+    let s = state-facts _ _ (p .1) in
+    let tested = test .leaves-free .ensures _ (constraints-known _ _ _ (cs .constraints .ensures .0)) in
+    free-ends _ _ b s _ _ (load .load .ensures) _ _ tested (c .before .if1 .taken) (c .refusal .ensures .0)
 
 refusal-requires-2 : tie.Need-refusal-requires-2
 refusal-requires-2 c κs = search needs
@@ -59,8 +62,10 @@ returns-2 c =
     let load = test .before .before .before .before .before .before .before in
     let cs = load .before .before .before in
     let p = cs .before .before .before .pre in
-    many-ends _ _ (book-facts _ (p .0)) (state-facts _ _ (p .1)) _ _ (load .load .ensures) _ _ (test .leaves-free .ensures _ (constraints-known _ _ _ (cs .constraints .ensures .0)))
-    (left .if1 .left) (c .before .if2 .taken) (c .refusal2 .ensures .0)
+    let b = book-facts _ (p .0) in
+    let s = state-facts _ _ (p .1) in
+    let tested = test .leaves-free .ensures _ (constraints-known _ _ _ (cs .constraints .ensures .0)) in
+    many-ends _ _ b s _ _ (load .load .ensures) _ _ tested (left .if1 .left) (c .before .if2 .taken) (c .refusal2 .ensures .0)
 
 moved-requires : tie.Need-moved-requires
 moved-requires c κs =
@@ -71,7 +76,9 @@ moved-requires c κs =
     let p = cs .before .before .before .pre in
     let b = book-facts _ (p .0) in
     let s = state-facts _ _ (p .1) in
-    (p .0, p .1, omega (arith, s .number, below .if2 .left), load .load .ensures, masks-known _ _ b s _ _ (load .load .ensures) _ (masks .follow-masks .ensures), cs .constraints .ensures .1)
+    let loaded = load .load .ensures in
+    let followed = masks-known _ _ b s _ _ loaded _ (masks .follow-masks .ensures) in
+    (p .0, p .1, omega (arith, s .number, below .if2 .left), loaded, followed, cs .constraints .ensures .1)
 
 returns-3 : tie.Need-returns-3
 returns-3 c =
@@ -81,9 +88,12 @@ returns-3 c =
     let load = test .before .before .before .before .before .before .before in
     let cs = load .before .before .before in
     let p = cs .before .before .before .pre in
+    let b = book-facts _ (p .0) in
+    let s = state-facts _ _ (p .1) in
     let known = constraints-known _ _ _ (cs .constraints .ensures .0) in
+    let tested = test .leaves-free .ensures _ known in
     let r = c .moved .ensures _ known in
-    (r .0 ∙ moved-number _ _ (book-facts _ (p .0)) (state-facts _ _ (p .1)) _ _ (load .load .ensures) _ _ (test .leaves-free .ensures _ known) (left .if1 .left) (below .if2 .left), r .1)
+    (r .0 ∙ moved-number _ _ b s _ _ (load .load .ensures) _ _ tested (left .if1 .left) (below .if2 .left), r .1)
 
 pub judged-spec : {M : Type 1} → statement M
 judged-spec =

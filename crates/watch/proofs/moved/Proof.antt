@@ -21,7 +21,10 @@ returns : tie.Need-returns
 returns c e h =
     let over = c .before in
     let p = over .before .before .before .before .pre in
-    room-none _ _ (book-facts _ (p .0)) (state-facts _ _ (p .1)) _ _ (p .3) e _ _ _ (over .before .advance .ensures e h) (over .if1 .taken) (c .refusal .ensures .0)
+    let b = book-facts _ (p .0) in
+    let s = state-facts _ _ (p .1) in
+    let advanced = over .before .advance .ensures e h in
+    room-none _ _ b s _ _ (p .3) e _ _ _ advanced (over .if1 .taken) (c .refusal .ensures .0)
 
 collect-requires : tie.Need-collect-requires
 collect-requires c κs =
@@ -41,8 +44,11 @@ returns-2 c e h =
     let rows = c .before .before .before .before in
     let room = rows .before .before in
     let p = room .before .before .before .before .pre in
-    room-some _ _ (book-facts _ (p .0)) (state-facts _ _ (p .1)) _ _ (p .3) e _ _ _ (room .before .advance .ensures e h) (room .if1 .left) refl (c .store .ensures) _ _
-    (rows .collect .ensures e h)
+    let b = book-facts _ (p .0) in
+    let s = state-facts _ _ (p .1) in
+    let advanced = room .before .advance .ensures e h in
+    let collected = rows .collect .ensures e h in
+    room-some _ _ b s _ _ (p .3) e _ _ _ advanced (room .if1 .left) refl (c .store .ensures) _ _ collected
 
 pub moved-spec : {M : Type 1} → statement M
 moved-spec =
