@@ -10,8 +10,8 @@ use native.Mathlib.Decide.{ℕ-discrete}
 use native.Mathlib.Omega.{arith}
 use borrow.Author.Tests.{leb-true, eqb-true, eqb-false, eq-eqb, ne-eqb, not-true, not-false}
 use lib.Dec.{eqb, leb, ltb}
-use lib.ListN.{length, take, drop, getD, set, length-map, length-set, drop-of-length-le}
-use lib.Seq.{length-take-le, drop-cons, take-suc, take-suc-set, getD-set-same, getD-set-other, getD-take, slice, slice-cons}
+use lib.ListN.{length, take, drop, getD, set, length-map, length-set}
+use lib.Seq.{length-take-le, take-suc, take-suc-set, getD-set-same, getD-set-other, slice, slice-cons}
 use Rattle.laws.specs.Lists.{all}
 use Rattle.laws.proofs.Lists.{and-true-split, all-taken}
 use Rattle.meaning.specs.Events as Events
