@@ -11,7 +11,7 @@ use lib.ListN.{length, getD, take, length-map, List·getD-eq-default, List·getD
 use borrow.Author.Tests.{lt-ltb, ne-eqb, eqb-true, eqb-false}
 use Rattle.laws.specs.Lists.{any, all, keep, numbers}
 use Rattle.laws.specs.Parts.{pad}
-use Rattle.laws.proofs.Lists.{all-at, all-of, length-numbers}
+use Rattle.laws.proofs.Lists.{all-at, all-of, length-numbers, either}
 use Rattle.laws.proofs.Parts.{pad-take}
 use Rattle.pattern.specs.Regex.{Regex, In}
 use Rattle.pattern.specs.Positions as Positions
@@ -27,7 +27,6 @@ use Rattle.form.specs.Scan.{run, isSpace}
 use Rattle.form.specs.Lines.{bytesAt, declaredTable}
 use Rattle.form.specs.Reading.{Outcome, readingOf}
 use Rattle.form.proofs.Accepted as Accepted
-use Rattle.form.proofs.Faults.{either}
 use Rattle.form.proofs.Header.{header-names}
 use Rattle.form.proofs.Outcomes.{known}
 use Rattle.form.proofs.Shapes.{shape-found}

@@ -10,10 +10,10 @@ use native.Mathlib.Decide.{ℕ-discrete}
 use native.Mathlib.Omega.{arith}
 use borrow.Author.Tests.{leb-true, eqb-true, eqb-false, eq-eqb, ne-eqb, not-true, not-false}
 use lib.Dec.{eqb, leb, ltb}
-use lib.ListN.{length, take, drop, getD, set, length-map, length-set, drop-of-length-le}
-use lib.Seq.{length-take-le, drop-cons, take-suc, take-suc-set, getD-set-same, getD-set-other, getD-take, slice, slice-cons}
+use lib.ListN.{length, take, drop, getD, set, length-map, length-set}
+use lib.Seq.{length-take-le, take-suc, take-suc-set, getD-set-same, getD-set-other, slice, slice-cons}
 use Rattle.laws.specs.Lists.{all}
-use Rattle.laws.proofs.Lists.{and-true-split, all-at, mem-getD}
+use Rattle.laws.proofs.Lists.{and-true-split, all-taken}
 use Rattle.meaning.specs.Events as Events
 use Rattle.meaning.specs.Book.{soundPlace}
 use Rattle.table.specs.declared.Place.{Place}
@@ -25,7 +25,7 @@ use Rattle.record.specs.Records.{viewEvent}
 use Rattle.constraint.specs.declared.Demand.{Demand}
 use Rattle.constraint.specs.declared.Constraint.{Constraint}
 use Rattle.constraint.specs.Constraints.{viewDemand, demandsIn, viewConstraint, noDemand, noConstraint, Ready}
-use Rattle.constraint.proofs.Views.{emptyDemand, demands-length, demand-at}
+use Rattle.constraint.proofs.Views.{emptyDemand, demand-at, demands-next, demands-end}
 
 -- the counts are the lengths of what is counted
 pub matches-counts : (y : Symbol) (e : Event) → length (y .places) ≡ 4 → y .count ≤ 4 → length (e .args) ≡ 4 → e .count ≤ 4
@@ -70,33 +70,23 @@ abbrev pub agreesFrom : Constraint → Events.Demand → ℕ → Bool
 agreesFrom c d j = all (Events.compatible d) (drop j (demandsIn c))
 
 module _ (c : Constraint) (l : length (c .demands) ≡ 4) (few : c .count ≤ 4) where
-  -- the demands from number i on, by the first of them
-  drop-first : (i : ℕ) → i < c .count → drop i (demandsIn c) ≡ getD (demandsIn c) i noDemand ∷ drop (suc i) (demandsIn c)
-  drop-first i h = let n = demands-length c l few in drop-cons (demandsIn c) i noDemand (omega arith)
-
-  drop-none : (i : ℕ) → c .count ≤ i → drop i (demandsIn c) ≡ []
-  drop-none i h =
-      let n = demands-length c l few in
-      let k : length (demandsIn c) ≤ i = omega arith in
-      drop-of-length-le (demandsIn c) k
-
   pub agrees-next : (d : Events.Demand) (j : ℕ) (b : Bool) → j < c .count
       → Events.compatible d (viewDemand (getD (c .demands) j emptyDemand)) ≡ b → agreesFrom c d j ≡ (b && agreesFrom c d (j + 1))
   agrees-next d j b h e =
-      ap (all (Events.compatible d)) (drop-first j h)
-      ∙ ap₂ _&&_ (ap (Events.compatible d) (demand-at c l few j h) ∙ e) (ap (agreesFrom c d) (sym (add-one j)))
+      ap (all (Events.compatible d)) (demands-next c j h (omega arith)) ∙ ap (λ (t : Bool). t && agreesFrom c d (j + 1)) e
 
   pub agrees-none : (d : Events.Demand) (j : ℕ) → c .count ≤ j → agreesFrom c d j ≡ true
-  agrees-none d j h = ap (all (Events.compatible d)) (drop-none j h)
+  agrees-none d j h = ap (all (Events.compatible d)) (demands-end c j h)
 
   -- whether the demands from number i on are consistent, by the comparison of the first with the others
   pub consistent-next : (i : ℕ) {b : Bool} → i < c .count → agreesFrom c (getD (demandsIn c) i noDemand) (suc i) ≡ b
       → Events.consistent (drop i (demandsIn c)) ≡ (b && Events.consistent (drop (i + 1) (demandsIn c)))
   consistent-next i h e =
-      ap Events.consistent (drop-first i h) ∙ ap₂ _&&_ e (ap (λ k. Events.consistent (drop k (demandsIn c))) (sym (add-one i)))
+      ap Events.consistent (demands-next c i h (omega arith))
+      ∙ ap (λ (t : Bool). t && Events.consistent (drop (i + 1) (demandsIn c))) (ap₂ (agreesFrom c) (sym (demand-at c l few i h)) (add-one i) ∙ e)
 
   pub consistent-none : (i : ℕ) → c .count ≤ i → Events.consistent (drop i (demandsIn c)) ≡ true
-  consistent-none i h = ap Events.consistent (drop-none i h)
+  consistent-none i h = ap Events.consistent (demands-end c i h)
 
 -- what the tag of a place says
 named : (p : Place) → p .tag ≡ 1 → viewPlace p ≡ Events.Place.names (p .number)
@@ -181,8 +171,7 @@ pub within-at : (table : List Symbol) (n i : ℕ) → n ≤ length table → i <
 within-at table n i l h a =
     let f : Symbol → Bool = λ y. leb (y .count) 4 && all (soundPlace 4) (viewSymbol y .places) in
     let d : Symbol = record { kind = 0; count = 0; places = [] } in
-    let m = mem-getD (take n table) i d (omega (arith, length-take-le n table l)) in
-    let s = and-true-split _ _ (sym (ap f (getD-take n table i d h)) ∙ all-at f a m) in
+    let s = and-true-split _ _ (all-taken f n table i d a l h) in
     (leb-true _ 4 (s .0), s .1)
 
 -- the first i elements of an array are the constraints of the first i symbols of a table

@@ -1,14 +1,15 @@
--- What a constraint of the code says: its view by the flag, and its counted demands by length, by element and by their bound.
+-- What a constraint of the code says: its view by the flag, and its counted demands by element, from a number on, and by their bound.
 -- For the crates above.
-use mathlib.Core.Path.{_≡_, sym, ap, _∙_}
+use mathlib.Core.Path.{_≡_, refl, sym, ap, _∙_}
 use mathlib.Core.Bool.{Bool, true, false, cond}
-use Prim.Native.Nat.{ℕ, _≤_, _<_}
-use native.Mathlib.Omega.{arith}
-use lib.ListN.{length, take, getD, length-map, List·getD-map}
-use lib.Seq.{length-take-le, getD-take}
+use mathlib.Core.List.{[], _∷_}
+use Prim.Native.Nat.{ℕ, _+_, _≤_, _<_}
+use lib.ListN.{length, take, drop, getD, List·getD-map}
+use lib.Seq.{getD-take}
 use lib.Dec.{ltb}
 use borrow.Author.Tests.{ltb-true}
-use Rattle.laws.proofs.Lists.{all-at, mem-getD}
+use Rattle.laws.proofs.Lists.{all-getD}
+use Rattle.laws.proofs.Maps.{mapped-cons, mapped-none}
 use Rattle.meaning.specs.Events as Events
 use Rattle.constraint.specs.declared.Demand.{Demand}
 use Rattle.constraint.specs.declared.Constraint.{Constraint}
@@ -27,19 +28,23 @@ module _ (c : Constraint) where
   unfolding viewConstraint
   never-view h = ap (λ (b : Bool). cond b (Events.Constraint.demands (demandsIn c)) Events.Constraint.never) h
 
-  pub demands-length : length (c .demands) ≡ 4 → c .count ≤ 4 → length (demandsIn c) ≡ c .count
-  unfolding demandsIn
-  demands-length l h = length-map (take (c .count) (c .demands)) viewDemand ∙ length-take-le (c .count) (c .demands) (omega arith)
-
   pub demand-at : length (c .demands) ≡ 4 → c .count ≤ 4 → (i : ℕ) → i < c .count
       → getD (demandsIn c) i noDemand ≡ viewDemand (getD (c .demands) i emptyDemand)
   unfolding demandsIn
   demand-at l h i k =
       List·getD-map viewDemand (take (c .count) (c .demands)) i emptyDemand ∙ ap viewDemand (getD-take (c .count) (c .demands) i emptyDemand k)
 
+  -- the demands from number i on, by the first of them
+  pub demands-next : (i : ℕ) → i < c .count → c .count ≤ length (c .demands)
+      → drop i (demandsIn c) ≡ viewDemand (getD (c .demands) i emptyDemand) ∷ drop (i + 1) (demandsIn c)
+  unfolding demandsIn
+  demands-next i h g = mapped-cons viewDemand (c .demands) (c .count) i emptyDemand h g
+
+  pub demands-end : (i : ℕ) → c .count ≤ i → drop i (demandsIn c) ≡ []
+  unfolding demandsIn
+  demands-end i h = mapped-none viewDemand (c .demands) (c .count) i h
+
   pub demand-below : Ready c → length (c .demands) ≡ 4 → (i : ℕ) → i < c .count → getD (c .demands) i emptyDemand .variable < 4
   demand-below r l i k =
-      let n = demands-length l (r .few) in
-      let e = demand-at l (r .few) i k in
-      let h = all-at (λ (d : Events.Demand). ltb (d .variable) 4) (r .within) (mem-getD (demandsIn c) i noDemand (omega arith)) in
-      ltb-true _ 4 (sym (ap (λ (d : Events.Demand). ltb (d .variable) 4) e) ∙ h)
+      let f : Events.Demand → Bool = λ d. ltb (d .variable) 4 in
+      ltb-true _ 4 (sym (ap f (demand-at l (r .few) i k)) ∙ all-getD f (demandsIn c) i noDemand refl (r .within))

@@ -1,23 +1,23 @@
 -- The end of a word that the course has read, and what it finds there: the line's LF, one space and a word behind it, or a place
 -- where it halts. For HeaderCourse.
-use mathlib.Core.Path.{_≡_, refl, sym, ap, _∙_}
-use mathlib.Core.Bool.{Bool, true, false, cond, _||_, true≢false}
-use mathlib.Core.List.{List, [], _∷_}
-use mathlib.Core.Logic.{_⊎_, inl, inr, ⊎-elim}
-use Prim.Native.Nat.{ℕ, zero, suc, _+_, _≤_, _<_}
+use mathlib.Core.Path.{_≡_, refl, sym, _∙_}
+use mathlib.Core.Bool.{true, false, _||_, true≢false}
+use mathlib.Core.List.{List}
+use mathlib.Core.Logic.{inl, inr, ⊎-elim}
+use Prim.Native.Nat.{ℕ, _+_, _≤_, _<_}
 use native.Mathlib.Omega.{arith}
 use borrow.Author.Tests.{ltb-true, eqb-true, eqb-false, eq-eqb, ne-eqb}
 use lib.Dec.{eqb}
-use lib.ListN.{length, getD, drop, length-drop}
+use lib.ListN.{length, drop, length-drop}
 use lib.Seq.{getD-drop}
-use Rattle.laws.proofs.Lists.{or-true-split, all-at, all-of}
+use Rattle.laws.proofs.Lists.{or-true-split, all-at, all-of, or-false-split, either}
 use Rattle.form.specs.Text.{Bytes, isBytes, space, lf, Span}
-use Rattle.form.specs.Scan.{Step, go, fail, at, pastEnd, run, isSpace, isWordByte, wordEnd, spacesEnd, nextWord}
+use Rattle.form.specs.Scan.{Step, go, fail, at, pastEnd, isSpace, isWordByte, wordEnd, spacesEnd, nextWord}
 use Rattle.form.specs.Lines.{wantWord}
-use Rattle.form.proofs.Scans.{at-end, at-inside, wordEnd-le, spacesEnd-le, spacesEnd-ge}
-use Rattle.form.proofs.TokenScan.{by-test, by-equal, or-false-left, or-false-right, inside-of, here-space}
+use Rattle.form.proofs.Scans.{run-end, at-end, at-inside, wordEnd-le, spacesEnd-le, spacesEnd-ge}
+use Rattle.form.proofs.TokenScan.{by-equal, inside-of, here-space}
 use Rattle.fault.specs.Places.{Ends}
-use Rattle.fault.proofs.Spots.{run-inside, run-end}
+use Rattle.fault.proofs.Spots.{run-inside}
 use Rattle.fault.proofs.Come.{Gap, Come, opened, variable, line, named, kinded, argued, Halt, noLF, lastSpace, twoSpaces, fewWords}
 
 -- p is the end of a word
@@ -48,7 +48,7 @@ module _ (s : Bytes) where
 
 module _ (s : Bytes) (bytes : isBytes s ≡ true) where
   -- no byte is 256
-  past-end : (p : ℕ) → at s p ≡ pastEnd → length s ≤ p
+  pub past-end : (p : ℕ) → at s p ≡ pastEnd → length s ≤ p
   past-end p = at-inside s p (all-of _ s λ b m. rw (ne-eqb b pastEnd λ e. omega (arith, ltb-true b 256 (all-at _ bytes m))))
 
   module _ {p k i : ℕ} {vs ss : List Span} (come : Come s p k i vs ss) where
@@ -68,15 +68,15 @@ module _ (s : Bytes) (bytes : isBytes s ≡ true) where
 
     ends-not : (eqb (at s q) lf || eqb (at s q) pastEnd) ≡ false → Ends s q → ⊥
     ends-not h =
-        ⊎-elim (eqb-false _ lf (or-false-left _ _ h))
-        λ e. eqb-false _ pastEnd (or-false-right (eqb (at s q) lf) _ h) (at-end s q (omega arith))
+        ⊎-elim (eqb-false _ lf (or-false-split _ _ h .0))
+        λ e. eqb-false _ pastEnd (or-false-split (eqb (at s q) lf) _ h .1) (at-end s q (omega arith))
 
     one-gap : (eqb (at s q) lf || eqb (at s q) pastEnd) ≡ false → q ≡ p + 1 → Gap s p
     unfolding q
     one-gap h e =
         let l = spacesEnd-le s p (come-end s come .inside) in
         let n : q ≡ length s → ⊥ = λ z. ends-not h (inr z) in
-        let w : isWordByte (at s q) ≡ true = rw (here-space s p, or-false-left (eqb (at s q) lf) _ h) in
+        let w : isWordByte (at s q) ≡ true = rw (here-space s p, or-false-split (eqb (at s q) lf) _ h .0) in
         (spaced (λ z. omega arith), omega arith, rw e at w)
 
     -- what holds of the gap behind a word, whatever stands there
@@ -88,7 +88,7 @@ module _ (s : Bytes) (bytes : isBytes s ≡ true) where
         by-equal P q p
         (λ a. by-equal P (at s q) lf (λ b. end (rw a at b))
         λ b. halt (fail 2 p) (λ z. omega arith) (noLF k i vs ss come (e .stops (rw (rw a at (here-space s p), ne-eqb _ lf (rw a at b))))))
-        λ a. by-test P (eqb (at s q) lf || eqb (at s q) pastEnd)
+        λ a. either P (eqb (at s q) lf || eqb (at s q) pastEnd)
         (λ b. halt (fail 2 p) (λ z. omega arith) (lastSpace k i vs ss come (spaced a) (ends b)))
         λ b. by-equal P q (p + 1) (λ c. rw c (next (one-gap b c))) λ c. halt (fail 2 (p + 1)) (λ z. omega arith)
         (twoSpaces p k i vs ss come (spaced a) (space-at s p 1 (omega (arith, spacesEnd-ge s p))) (ends-not b) refl)

@@ -8,6 +8,7 @@ use native.Mathlib.Omega.{arith}
 use borrow.Author.Tests.{eq-eqb, ne-eqb}
 use lib.Dec.{eqb}
 use lib.ListN.{length, length-append}
+use Rattle.laws.proofs.Lists.{either}
 use Rattle.meaning.specs.Events.{Place}
 use Rattle.form.specs.Text.{Bytes, isBytes, lf, varsWord, symWord, matchWord, Span}
 use Rattle.form.specs.Form.{sameWord}
@@ -15,7 +16,7 @@ use Rattle.form.specs.Scan.{Step, go, fail, at, wordEnd, kindOf}
 use Rattle.form.specs.Lines.{spanOf, declareFault, argumentFault, Table, Variables, variablesFrom, Arguments, argumentsFrom, wantWord}
 use Rattle.form.specs.Lines.{SymbolRead, noSymbolRead, kindFrom, symbolFrom, noTable, withSymbol, Lines, linesFrom, linesOf}
 use Rattle.form.proofs.Scans.{same-word}
-use Rattle.form.proofs.TokenScan.{by-test, by-equal}
+use Rattle.form.proofs.TokenScan.{by-equal}
 use Rattle.fault.specs.Places.{wordAt}
 use Rattle.fault.proofs.Come.{Come, opened, variable, line, named, kinded, argued, Halt, Matched}
 use Rattle.fault.proofs.Come.{noVars, badVariable, fifthVariable, badName, badKind, badArgument, fifthArgument, badLine, seventeenth}
@@ -161,8 +162,8 @@ module _ (s : Bytes) (bytes : isBytes s ≡ true) where
       let ss = t .symbols in
       let all : k ≡ 16 = omega arith in
       let Here : Step → Type 0 = λ y. LinesWay (record { step = y; table = t }) in
-      by-test Here (sameWord x matchWord) (λ h. matched t p k i c w e (omega arith) (omega arith) (same-word x matchWord .0 h))
-      λ h. by-test (λ f. Here (fail f (p + 1))) (sameWord x symWord)
+      either Here (sameWord x matchWord) (λ h. matched t p k i c w e (omega arith) (omega arith) (same-word x matchWord .0 h))
+      λ h. either (λ f. Here (fail f (p + 1))) (sameWord x symWord)
       (λ a. off (λ z. omega arith) (seventeenth p i vs ss (rw all at c) (w (omega arith)) e (same-word x symWord .0 a) refl))
       λ a. off (λ z. omega arith) (badLine p k i vs ss c (omega arith) w e (other symWord a) (λ b. absurd (other matchWord h b)) refl)
 
@@ -174,12 +175,12 @@ module _ (s : Bytes) (bytes : isBytes s ≡ true) where
       let ss = t .symbols in
       let r = symbolFrom s t f in
       let Here : Step → Type 0 = λ y. LinesWay (record { step = y; table = t }) in
-      by-test LinesWay (sameWord x symWord)
+      either LinesWay (sameWord x symWord)
       (λ h. let y = symbol-way t (suc k) f (omega arith) (line p k i vs ss c (omega arith) w e (same-word x symWord .0 h)) in
       by-equal LinesWay (r .step .fault) 0
       (λ z. more (withSymbol t r) _ (suc k) (y .goes z) (omega (arith, length-append (t .table) (r .symbol ∷ []))) (omega arith))
       λ z. off z (y .halts z))
-      λ h. by-test Here (sameWord x matchWord)
+      λ h. either Here (sameWord x matchWord)
       (λ a. by-equal Here (length (t .table)) 0
       (λ z. off (λ z. omega arith) (badLine p k i vs ss c (omega arith) w e (other symWord h) (λ _. omega arith) refl))
       λ z. matched t p k i c w e (omega arith) (omega arith) (same-word x matchWord .0 a))
@@ -204,7 +205,7 @@ module _ (s : Bytes) (bytes : isBytes s ≡ true) where
           → let lines = cond (eqb (v .step .fault) 0) others (record { step = v .step; table = noTable }) in
           LinesWay (cond (sameWord (wordAt s 0) varsWord) lines (record { step = fail 2 0; table = noTable }))
       ways v others vars more =
-          by-test LinesWay (sameWord (wordAt s 0) varsWord)
+          either LinesWay (sameWord (wordAt s 0) varsWord)
           (λ e. let y = vars (same-word _ varsWord .0 e) in
           by-equal LinesWay (v .step .fault) 0 (λ z. more (y .goes z)) λ n. off n (y .halts n))
           λ e. off (λ z. omega arith) (noVars (other varsWord e) refl)

@@ -12,7 +12,7 @@ use borrow.Author.Tests.{eqb-true, eqb-false, leb-true, leb-false, ltb-true, ltb
 use lib.Dec.{eqb, leb, ltb}
 use lib.ListN.{length, getD, drop, length-drop}
 use lib.Seq.{getD-drop}
-use Rattle.laws.proofs.Lists.{or-true-split}
+use Rattle.laws.proofs.Lists.{or-true-split, or-false-split, either}
 use Rattle.pattern.specs.Regex.{Regex, cat, alt, star, plus, opt}
 use Rattle.pattern.specs.Positions.{size}
 use Rattle.form.specs.Text.{Bytes, space, lf, isLower, Span}
@@ -24,7 +24,7 @@ use Rattle.form.specs.Parse.{Parsed, failed, postfixOn, itemOf, nameAtom, unfit
 use Rattle.form.specs.Parse.{alternationFrom, sequenceFrom, atomFrom, enough, patternFrom}
 use Rattle.form.specs.Reading.{lastLine}
 use Rattle.form.proofs.Scans.{spacesEnd-ge, at-end}
-use Rattle.form.proofs.TokenScan.{by-test, by-equal, or-false-left, or-false-right, inside-of}
+use Rattle.form.proofs.TokenScan.{by-equal, inside-of}
 use Rattle.form.proofs.Course.{drop-next}
 use Rattle.form.proofs.Complete.{isPostfix}
 use Rattle.form.proofs.Fuel.{item-ends, sequence-ends, atom-ends}
@@ -43,12 +43,12 @@ goesAlternation b = goesSequence b || eqb b bar
 -- a byte that an alternation does not go on with
 not-on : (b : ℕ) → goesAlternation b ≡ false → (isLower b ≡ false) × (b ≡ opening → ⊥) × (eqb b bar ≡ false) × (isPostfix b ≡ false)
 not-on b h =
-    let x = or-false-left (goesSequence b) (eqb b bar) h in
-    let y = or-false-right (isPostfix b) (beginsItem b) x in (
-      or-false-left (isLower b) (eqb b opening) y,
-      eqb-false b opening (or-false-right (isLower b) (eqb b opening) y),
-      or-false-right (goesSequence b) (eqb b bar) h,
-      or-false-left (isPostfix b) (beginsItem b) x,
+    let x = or-false-split (goesSequence b) (eqb b bar) h .0 in
+    let y = or-false-split (isPostfix b) (beginsItem b) x .1 in (
+      or-false-split (isLower b) (eqb b opening) y .0,
+      eqb-false b opening (or-false-split (isLower b) (eqb b opening) y .1),
+      or-false-split (goesSequence b) (eqb b bar) h .1,
+      or-false-split (isPostfix b) (beginsItem b) x .0,
     )
 
 -- the byte at a place and the spaces from there on, by the bytes left
@@ -99,7 +99,7 @@ module _ (s : Bytes) (symbols : List Span) (start : ℕ) where
 
   -- a byte that cannot stand behind the way
   unfit-some : (q : ℕ) → unfit s q .fault ≡ 0 → ⊥
-  unfit-some q = by-test (λ (n : ℕ). n ≡ 0 → ⊥) (eqb (at s q) pastEnd) (λ _ e. omega arith) (λ _ e. omega arith)
+  unfit-some q = either (λ (n : ℕ). n ≡ 0 → ⊥) (eqb (at s q) pastEnd) (λ _ e. omega arith) (λ _ e. omega arith)
 
   unfit-stopped : {p o k : ℕ} {e : Bool} → let q = spacesEnd s p in
       Walk s symbols start p o e k → isLower (at s q) ≡ false → (at s q ≡ opening → ⊥) → Blocked s symbols start o e (at s q)
@@ -131,9 +131,9 @@ module _ (s : Bytes) (symbols : List Span) (start : ℕ) where
 
       steps : Onward → Went isPostfix o k (postfixOn (b ∷ l) here done r)
       steps on = by-equal (Went isPostfix o k) b space (λ q. on done r n (g ∙ space-on s here b l e q) w)
-          (λ h. by-test (Went isPostfix o k) (eqb b asterisk) (λ q. on (here + 1) (star r) n refl (signed h (rw q)))
-          (λ x. by-test (Went isPostfix o k) (eqb b plusSign) (λ q. on (here + 1) (plus r) n refl (signed h (rw (x, q))))
-          (λ y. by-test (Went isPostfix o k) (eqb b question) (λ q. on (here + 1) (opt r) n refl (signed h (rw (x, y, q))))
+          (λ h. either (Went isPostfix o k) (eqb b asterisk) (λ q. on (here + 1) (star r) n refl (signed h (rw q)))
+          (λ x. either (Went isPostfix o k) (eqb b plusSign) (λ q. on (here + 1) (plus r) n refl (signed h (rw (x, q))))
+          (λ y. either (Went isPostfix o k) (eqb b question) (λ q. on (here + 1) (opt r) n refl (signed h (rw (x, y, q))))
           (λ z. went refl w (rw (sign h, x, y, z))))))
 
   item-went : (o k : ℕ) (a : Parsed) → Went goesAtom o k a → Went isPostfix o k (itemOf s a)
@@ -152,14 +152,14 @@ module _ (s : Bytes) (symbols : List Span) (start : ℕ) where
       let i = indexOf s symbols (part s q m) in
       let stops : (n : ℕ) → Stop s symbols start p o e k n → Stopped s symbols start q n
       = λ n x. record { p = p; o = o; e = e; k = k; walk = w; stop = x; place = refl } in
-      by-test (Went goesAtom o k) (ltb 12 (m - q) || leb 31 k)
+      either (Went goesAtom o k) (ltb 12 (m - q) || leb 31 k)
       (λ t. halted 3 q (λ z. omega arith) (stops 3
       (⊎-elim (λ l. Stop.long h (ltb-true 12 (m - q) l)) (λ l. Stop.many h (leb-true 31 k l))
       (or-true-split (ltb 12 (m - q)) (leb 31 k) t))))
       λ t.
-      let few : k < 31 = leb-false 31 k (or-false-right (ltb 12 (m - q)) (leb 31 k) t) in
-      let brief : m - q ≤ 12 = ltb-false 12 (m - q) (or-false-left (ltb 12 (m - q)) (leb 31 k) t) in
-      by-test (Went goesAtom o k) (ltb i (length symbols))
+      let few : k < 31 = leb-false 31 k (or-false-split (ltb 12 (m - q)) (leb 31 k) t .1) in
+      let brief : m - q ≤ 12 = ltb-false 12 (m - q) (or-false-split (ltb 12 (m - q)) (leb 31 k) t .0) in
+      either (Went goesAtom o k) (ltb i (length symbols))
       (λ u. went refl (rw add-one (Walk.name p o e k w h brief few (ltb-true i (length symbols) u))) refl)
       λ u. halted 5 q (λ z. omega arith) (stops 5 (Stop.unknown h brief few (ltb-false i (length symbols) u)))
 
@@ -215,7 +215,7 @@ module _ (s : Bytes) (symbols : List Span) (start : ℕ) where
           let q = spacesEnd s r in
           let e = sequence-ends s short symbols n d k p h in
           let x = sequence-went n d k p o false h (omega arith) m w (λ t. absurd (false≢true t)) in
-          passing goesAlternation o k a x (λ z. by-test (Went goesAlternation o k) (eqb (at s q) bar)
+          passing goesAlternation o k a x (λ z. either (Went goesAlternation o k) (eqb (at s q) bar)
           (λ t. let c = eqb-true (at s q) bar t in
           let i = inside-of s q bar c refl in
           let l = e .beyond z in
@@ -234,7 +234,7 @@ module _ (s : Bytes) (symbols : List Span) (start : ℕ) where
           let v = item-ends s short symbols k p c (atom-ends s short symbols n d k p h) in
           let x = item-went o k c (atom-went n d k p o e h (omega arith) m w b) in
           passing goesSequence o k a x
-          (λ z. by-test (Went goesSequence o k) (beginsItem (at s (spacesEnd s r)))
+          (λ z. either (Went goesSequence o k) (beginsItem (at s (spacesEnd s r)))
           (λ t. let l = v .beyond z in
           let i = v .inside in
           joined-went goesSequence o k cat a _ refl
@@ -246,7 +246,7 @@ module _ (s : Bytes) (symbols : List Span) (start : ℕ) where
       atom-went zero d k p o e h f m w b = absurd (omega arith)
       atom-went (suc n) d k p o e h f m w b =
           let q = spacesEnd s p in
-          by-test (Went goesAtom o k) (isLower (at s q)) (name-went o k p e w)
+          either (Went goesAtom o k) (isLower (at s q)) (name-went o k p e w)
           λ l. by-equal (Went goesAtom o k) (at s q) opening
           (λ c. by-equal (Went goesAtom o k) d 0
           (λ y. halted 3 q (λ z. omega arith)

@@ -6,10 +6,9 @@ use mathlib.Core.Logic.{inl, dite}
 use Prim.Native.Nat.{ℕ, _+_, _≤_, _<_}
 use native.Mathlib.Omega.{arith}
 use native.Mathlib.Decide.{decLt, ℕ-discrete}
-use borrow.Author.Tests.{eqb-true, eqb-false, ltb-true, ne-eqb}
-use lib.Dec.{eqb, ltb}
+use borrow.Author.Tests.{eqb-true, eqb-false, ne-eqb}
+use lib.Dec.{eqb}
 use lib.ListN.{length}
-use Rattle.laws.proofs.Lists.{all-at, mem-getD}
 use Rattle.form.specs.Text.{Bytes, isBytes, space, lf, isLower, Span}
 use Rattle.form.specs.Tokens.{name, sign}
 use Rattle.form.specs.Phrase.{opening, closing}
@@ -23,6 +22,7 @@ use Rattle.fault.specs.Fault.{TokenFault, Fault, Least, NoFault}
 use Rattle.fault.proofs.Stands.{stuck, on, lessOpen, signed, stand, stands, begins-stands, pattern-stands}
 use Rattle.fault.proofs.Sites.{Clean, least-of, fault-number, fault-inside}
 use Rattle.fault.proofs.Come.{Ready}
+use Rattle.fault.proofs.Gaps.{past-end}
 use Rattle.fault.proofs.Walk
 use Rattle.fault.proofs.Walk.{Blocked, Stop, Stopped, Finished}
 use Rattle.fault.proofs.PatternSites.{Here, noSpace, token, noToken, noLF, next-line, line-fault, token-fault, end-fault}
@@ -33,13 +33,6 @@ module _ (s : Bytes) (bytes : isBytes s ≡ true) (symbols : List Span) (e : ℕ
   pub space-least : (at s e ≡ space → ⊥) → Least s e 2
   space-least h =
       least-of s e 2 (ready .clean) (Fault.missingSpace (ready .line) (λ z. h (ap (at s) (ready .end) ∙ z)) (ready .end)) (fault-number s e)
-
-  -- there is no byte only past the end
-  past-end : (q : ℕ) → at s q ≡ pastEnd → length s ≤ q
-  past-end q h =
-      dite (decLt q (length s))
-      (λ l. absurd (omega (arith, ltb-true (at s q) 256 (all-at (λ b. ltb b 256) bytes (mem-getD s q pastEnd l)))))
-      λ l. omega arith
 
   module _ (spaced : at s e ≡ space) where
     -- where the course has walked to q, with o parentheses open and n names read, and no space stands there
@@ -97,7 +90,7 @@ module _ (s : Bytes) (bytes : isBytes s ≡ true) (symbols : List Span) (e : ℕ
       -- past the end the LF is missing
       end-least : at s q ≡ pastEnd → Least s q 2
       end-least h =
-          least-of s q 2 (x .clean) (Fault.missingLF (x .on) (ready .line .first) (omega (arith, past-end q h, x .inside)))
+          least-of s q 2 (x .clean) (Fault.missingLF (x .on) (ready .line .first) (omega (arith, past-end s bytes q h, x .inside)))
           (fault-number s q)
 
       module _ (low : isLower (at s q) ≡ false) (shut : at s q ≡ opening → ⊥) (blocked : Blocked s symbols (e + 1) o d (at s q)) where

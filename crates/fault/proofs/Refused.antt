@@ -1,23 +1,23 @@
 -- `refused`: the number and the place that `read` hands back (its contract cites `reading`) are those of the rules: 1 for a text too long,
 -- the least fault, 7, 8, or 0.
 use mathlib.Core.Path.{_≡_, refl, sym, ap, _∙_}
-use mathlib.Core.Bool.{Bool, true, false, cond, true≢false}
-use mathlib.Core.List.{List, []}
+use mathlib.Core.Bool.{Bool, true, false, true≢false}
 use mathlib.Core.Logic.{_↔_, _⊎_, inl, inr, ⊎-elim}
 use Prim.Native.Nat.{ℕ, _+_, _≤_, _<_}
 use native.Mathlib.Omega.{arith}
 use borrow.Author.Tests.{eqb-true, eqb-false, eq-eqb, ltb-false, ltb-true}
 use lib.Dec.{eqb, ltb}
 use lib.ListN.{length}
-use Rattle.pattern.specs.Regex.{Regex, nullable}
-use Rattle.form.specs.Text.{Bytes, isBytes, space, Declarations}
-use Rattle.form.specs.Form.{Shape, textLimit}
-use Rattle.form.specs.Scan.{Step, fail, at}
+use Rattle.laws.proofs.Lists.{either}
+use Rattle.pattern.specs.Regex.{nullable}
+use Rattle.form.specs.Text.{Bytes, isBytes, space}
+use Rattle.form.specs.Form.{textLimit}
+use Rattle.form.specs.Scan.{at}
 use Rattle.form.specs.Lines.{linesOf}
-use Rattle.form.specs.Parse.{Parsed, failed}
-use Rattle.form.specs.Reading.{Outcome, refused as refusal, matchFrom, readingOf}
+use Rattle.form.specs.Parse.{Parsed}
+use Rattle.form.specs.Reading.{Outcome, matchFrom, readingOf}
 use Rattle.form.proofs.Accepted as Accepted
-use Rattle.form.proofs.Faults.{either, before-end}
+use Rattle.form.proofs.Faults.{before-end}
 use Rattle.form.proofs.Outcomes.{Whole, known, patternOf, bindsAll, outcome}
 use Rattle.book.specs.Answers.{numberOf, placeOf}
 use Rattle.book.specs.Books.{reading}

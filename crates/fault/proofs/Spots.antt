@@ -12,11 +12,11 @@ use borrow.Author.Tests.{not-true}
 use lib.Dec.{eqb}
 use lib.ListN.{length, getD, take, drop, length-drop}
 use lib.Seq.{take-suc, getD-drop}
-use Rattle.laws.proofs.Lists.{and-true-split}
+use Rattle.laws.proofs.Lists.{and-true-split, either, all-taken}
 use Rattle.form.specs.Text.{Bytes, space, lf}
 use Rattle.form.specs.Scan.{at, pastEnd, run, isWordByte, wordEnd}
-use Rattle.form.proofs.Scans.{wordEnd-le, run-step}
-use Rattle.form.proofs.TokenScan.{by-test}
+use Rattle.form.proofs.Scans.{wordEnd-le, run-le, run-end, run-step}
+use Rattle.form.proofs.Words.{run-split}
 use Rattle.fault.specs.Places.{Spot, outset, passed, passedAll, spotAt, Word}
 
 -- x does not lie behind y: by line, then by words begun
@@ -36,9 +36,9 @@ behind-word x b h =
 
 behind-later : (x : Spot) (b : ℕ) → NotBehind x (passed x b)
 behind-later x b =
-    by-test (NotBehind x) (eqb b lf) (λ _. inl (omega arith))
-    λ _. by-test (NotBehind x) (eqb b space) (λ _. inr (refl, omega arith))
-    λ _. inr (refl, by-test (λ n. x .words ≤ n) (x .inside) (λ _. omega arith) λ _. omega arith)
+    either (NotBehind x) (eqb b lf) (λ _. inl (omega arith))
+    λ _. either (NotBehind x) (eqb b space) (λ _. inr (refl, omega arith))
+    λ _. inr (refl, either (λ n. x .words ≤ n) (x .inside) (λ _. omega arith) λ _. omega arith)
 
 -- the order of spots
 later-trans : (x y z : Spot) → NotBehind x y → NotBehind y z → NotBehind x z
@@ -53,26 +53,9 @@ against (inl h) (inr l) = omega arith
 against (inr h) (inl l) = omega arith
 against (inr h) (inr l) = omega arith
 
--- what stands in a run, and at its end
+-- what stands in a run
 pub run-inside : (f : ℕ → Bool) (l : Bytes) (i : ℕ) → i < run f l → f (getD l i pastEnd) ≡ true
-run-inside f [] i h = absurd (omega arith)
-run-inside f (b ∷ l) i h = go (f b) refl i h (run-inside f l)
-  where
-    go : (t : Bool) → f b ≡ t → (i : ℕ) → i < cond t (suc (run f l)) 0 → ((j : ℕ) → j < run f l → f (getD l j pastEnd) ≡ true)
-        → f (getD (b ∷ l) i pastEnd) ≡ true
-    go true e zero h ih = e
-    go true e (suc i) h ih = ih i (omega arith)
-    go false e i h ih = absurd (omega arith)
-
-pub run-end : (f : ℕ → Bool) (l : Bytes) → (run f l ≡ length l) ⊎ (f (getD l (run f l) pastEnd) ≡ false)
-run-end f [] = inl refl
-run-end f (b ∷ l) = go (f b) refl (run-end f l)
-  where
-    go : (t : Bool) → f b ≡ t → (run f l ≡ length l) ⊎ (f (getD l (run f l) pastEnd) ≡ false)
-        → (cond t (suc (run f l)) 0 ≡ suc (length l)) ⊎ (f (getD (b ∷ l) (cond t (suc (run f l)) 0) pastEnd) ≡ false)
-    go true e (inl h) = inl (ap suc h)
-    go true e (inr h) = inr h
-    go false e h = inr e
+run-inside f l i h = all-taken f (run f l) l i pastEnd (run-split f l .0) (run-le f l) h
 
 module _ (s : Bytes) where
   pub spot-zero : spotAt s 0 ≡ outset

@@ -11,13 +11,13 @@ use lib.Dec.{eqb}
 use lib.ListN.{length}
 use borrow.Author.Tests.{eqb-true}
 use Rattle.laws.specs.Lists.{gather}
-use Rattle.laws.proofs.Lists.{or-true-split, mem-gather, mem-index}
+use Rattle.laws.proofs.Lists.{or-true-split, mem-gather, mem-index, either}
 use Rattle.pattern.specs.Regex.{Regex}
 use Rattle.form.specs.Text.{Bytes}
 use Rattle.form.specs.Tokens.{Token, name, sign}
 use Rattle.form.specs.Phrase
 use Rattle.form.specs.Phrase.{Phrase, Level, item, alternation, opening, closing, bar, asterisk, plusSign, question}
-use Rattle.form.proofs.TokenScan.{by-test, by-equal}
+use Rattle.form.proofs.TokenScan.{by-equal}
 use Rattle.form.proofs.Complete.{isPostfix}
 use Rattle.fault.specs.Places.{Pattern, Begins}
 
@@ -160,7 +160,7 @@ module _ (names : List Bytes) where
       behind false = λ h. absurd (stuck-stays us 0 true h)
       behind true = by-equal (Next true) b bar
           (λ q h. rw q (before-rest (suc d) false true (sign bar ∷ []) (bar-piece (suc d)) o us (f o (suc d) false n h)))
-          (λ _. by-test (Next true) (isPostfix b)
+          (λ _. either (Next true) (isPostfix b)
           (λ q h. before-rest (suc d) true true (sign b ∷ []) (postfix-piece (suc d) b q) o us (f o (suc d) true n h))
           (λ _. by-equal (Next true) b closing (λ q h. rw q (closing-rest us f o (suc d) n h)) (λ _ h. absurd (stuck-stays us 0 true h))))
 

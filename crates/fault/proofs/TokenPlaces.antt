@@ -12,13 +12,13 @@ use lib.ListN.{length, getD, take, drop}
 use lib.Seq.{drop-cons, drop-drop, getD-drop, take-add}
 use borrow.Author.Tests.{eqb-true}
 use Rattle.laws.specs.Lists.{all}
-use Rattle.laws.proofs.Lists.{and-true-split, and-false-split}
+use Rattle.laws.proofs.Lists.{and-true-split, and-false-split, or-false-split}
 use Rattle.form.specs.Text.{Bytes, space, isLower, isDigit, isNameByte}
 use Rattle.form.specs.Tokens.{name, sign, tokensAfter, tokens}
 use Rattle.form.specs.Scan.{at, pastEnd, run, isSpace, part, spacesEnd, nameEnd}
-use Rattle.form.proofs.TokenScan.{apart, tokens-apart, or-false-left}
+use Rattle.form.proofs.TokenScan.{apart, tokens-apart}
 use Rattle.form.proofs.Words.{run-split}
-use Rattle.form.proofs.Scans.{run-step, inside-of, nameEnd-ge}
+use Rattle.form.proofs.Scans.{run-step, run-behind, inside-of, nameEnd-ge}
 use Rattle.fault.specs.Places.{inName, nameAt}
 use Rattle.fault.proofs.Spots.{run-inside}
 
@@ -34,7 +34,7 @@ Parted w l m = (inName (begun w) l && isNameByte (getD m 0 pastEnd)) ≡ false
 tokens-append : (w l m : Bytes) → Parted w l m → tokensAfter w (l ++ m) ≡ tokensAfter w l ++ tokens m
 tokens-append [] [] m h = refl
 tokens-append (c ∷ v) [] [] h = refl
-tokens-append (c ∷ v) [] (b ∷ m) h = rw (h, tokens-apart b m (or-false-left (isLower b) _ h))
+tokens-append (c ∷ v) [] (b ∷ m) h = rw (h, tokens-apart b m (or-false-split (isLower b) _ h .0))
 tokens-append [] (b ∷ l) m h = by (isLower b) (eqb b space) h (tokens-append (b ∷ []) l m) (tokens-append [] l m)
   where
     by : (t u : Bool) → (inName t l && isNameByte (getD m 0 pastEnd)) ≡ false
@@ -71,15 +71,6 @@ first-parted true zero l h = refl
 first-parted false zero l h = refl
 first-parted o (suc n) [] h = h
 first-parted o (suc n) (b ∷ l) h = h
-
--- the byte behind a run
-run-end : (f : ℕ → Bool) → f pastEnd ≡ false → (l : Bytes) → f (getD l (run f l) pastEnd) ≡ false
-run-end f h [] = h
-run-end f h (b ∷ l) = by (f b) refl (run-end f h l)
-  where
-    by : (t : Bool) → f b ≡ t → f (getD l (run f l) pastEnd) ≡ false → f (getD (b ∷ l) (cond t (suc (run f l)) 0) pastEnd) ≡ false
-    by true e g = g
-    by false e g = e
 
 -- spaces: no token, and behind them no name goes on
 spaces-none : (l : Bytes) → tokens (take (run isSpace l) l) ≡ []
@@ -212,7 +203,7 @@ module _ (s : Bytes) where
     name-apart q e =
         let r = run isNameByte (drop q s) in
         let b : at s (nameEnd s q) ≡ getD (drop q s) r pastEnd = ap (at s) (name-end q e) ∙ sym (getD-drop q s r pastEnd) in
-        ap (λ t. inName false (part s a (nameEnd s q)) && t) (ap isNameByte b ∙ run-end isNameByte refl (drop q s))
+        ap (λ t. inName false (part s a (nameEnd s q)) && t) (ap isNameByte b ∙ run-behind isNameByte refl (drop q s))
         ∙ and-false (inName false (part s a (nameEnd s q)))
 
     -- inside a name no token begins
@@ -242,7 +233,7 @@ module _ (s : Bytes) where
         let o = inName false (part s a q) in
         let i : inName false (part s a (q + 1)) ≡ cond o (isNameByte (at s q)) (isLower (at s q))
         = name-over q (q + 1) h (omega arith) ∙ ap (inName o) (part-byte s q l) in
-        ap (λ t. t && isNameByte (at s (q + 1))) (i ∙ none o _ _ e (or-false-left (isLower (at s q)) _ e))
+        ap (λ t. t && isNameByte (at s (q + 1))) (i ∙ none o _ _ e (or-false-split (isLower (at s q)) _ e .0))
       where
         none : (o t u : Bool) → t ≡ false → u ≡ false → cond o t u ≡ false
         none true t u h k = h

@@ -12,7 +12,7 @@ use lib.Dec.{eqb}
 use lib.ListN.{length, take, drop, length-append, length-drop}
 use lib.Seq.{length-take-le}
 use Rattle.laws.specs.Lists.{keep}
-use Rattle.laws.proofs.Lists.{or-true-split, keep-append}
+use Rattle.laws.proofs.Lists.{or-true-split, keep-append, or-false-split}
 use Rattle.form.specs.Text.{Bytes, space, lf, isLower, isNameByte, Span}
 use Rattle.form.specs.Tokens.{Token, name, sign, tokens}
 use Rattle.form.specs.Phrase.{opening, closing, bar, asterisk, plusSign, question}
@@ -20,7 +20,7 @@ use Rattle.form.specs.Scan.{at, pastEnd, isSpace, part, spacesEnd, nameEnd}
 use Rattle.form.specs.Lines.{indexOf}
 use Rattle.form.proofs.Complete.{isPostfix}
 use Rattle.form.proofs.Scans.{spacesEnd-le, spacesEnd-ge, nameEnd-le, nameEnd-ge}
-use Rattle.form.proofs.TokenScan.{inside-of, or-false-left}
+use Rattle.form.proofs.TokenScan.{inside-of}
 use Rattle.fault.specs.Places.{spotAt, On, TokenAt, before, nameAt, tokenAt, isName, isSign, occurrences, signs, Begins}
 use Rattle.fault.specs.Fault
 use Rattle.fault.specs.Fault.{TokenFault, Fault}
@@ -181,7 +181,7 @@ module _ (s : Bytes) (symbols : List Span) (e : ℕ) (ready : Ready s symbols e)
       (λ r m u v y f. first r m (omega arith) f) (g .count))
     where
       low : isLower c ≡ false
-      low = or-false-left (isLower c) _ (g .plain .0)
+      low = or-false-split (isLower c) _ (g .plain .0) .0
 
       lower : isLower (at s q) ≡ true → ⊥
       lower y = true≢false (sym y ∙ ap isLower e ∙ low)

@@ -9,7 +9,7 @@ use borrow.Author.Tests.{lt-ltb, ltb-true, leb-true}
 use lib.Dec.{ltb, leb}
 use lib.ListN.{length, getD}
 use Rattle.laws.specs.Lists.{any, all, gather}
-use Rattle.laws.proofs.Lists.{and-true-split, or-true-split, all-append, all-map, all-at, all-of, not-any}
+use Rattle.laws.proofs.Lists.{and-true-split, or-true-split, all-append, all-map, all-at, all-of, not-any, either}
 use Rattle.pattern.specs.Regex.{Regex}
 use Rattle.meaning.specs.Events.{Place, ignored, names}
 use Rattle.meaning.specs.Book.{soundSymbol}
@@ -17,7 +17,6 @@ use Rattle.form.specs.Text.{Bytes, isLower, isDigit, isNameByte, isName,
 use Rattle.form.specs.Text.{lf, varsLine, matchLine, header, text, symbolOf}
 use Rattle.form.specs.Form.{Shape, symbolNames}
 use Rattle.form.proofs.SymbolLines.{lineWords}
-use Rattle.form.proofs.Faults.{either}
 use Rattle.form.proofs.Grammar.{tokens-signs, phrase-signs}
 
 abbrev pub isAscii : ℕ → Bool

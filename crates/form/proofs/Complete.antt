@@ -12,11 +12,11 @@ use lib.ListN.{length, getD, drop, length-map, length-append, length-take, lengt
 use lib.Seq.{drop-cons, drop-drop, getD-drop}
 use borrow.Author.Tests.{eqb-true, leb-true, le-ltb, lt-ltb, lt-leb, not-true, ne-eqb}
 use Rattle.laws.specs.Lists.{any, all}
-use Rattle.laws.proofs.Lists.{and-true-split, or-true-split, any-none, all-at, mem-getD}
+use Rattle.laws.proofs.Lists.{and-true-split, or-true-split, any-none, all-at, mem-getD, or-false-split}
 use Rattle.pattern.specs.Regex.{Regex, lit, cat, alt, star, plus, opt}
 use Rattle.pattern.specs.Positions.{size}
 use Rattle.form.specs.Text.{Bytes, space, isLower, isNameByte, isName, Span}
-use Rattle.form.specs.Tokens.{Token, name, sign, tokens}
+use Rattle.form.specs.Tokens.{Token, name, sign}
 use Rattle.form.specs.Phrase
 use Rattle.form.specs.Phrase.{Phrase, Level, atom, item, sequence, alternation, opening, closing, bar, asterisk, plusSign, question}
 use Rattle.form.specs.Form.{sameWord, distinct}
@@ -25,7 +25,7 @@ use Rattle.form.specs.Lines.{bytesAt, indexOf}
 use Rattle.form.specs.Parse.{Parsed, postfixOn, itemOf, nameAtom, closed, beginsItem}
 use Rattle.form.specs.Parse.{alternationFrom, sequenceFrom, atomFrom}
 use Rattle.form.proofs.Scans.{nameEnd-le, same-word}
-use Rattle.form.proofs.TokenScan.{or-false-left, or-false-right, tokensAt, inside-of, nextIs, next-test, here-space, word-found, sign-found}
+use Rattle.form.proofs.TokenScan.{tokensAt, inside-of, nextIs, next-test, here-space, word-found, sign-found}
 use Rattle.form.proofs.Grammar.{phrase-begins, phrase-some}
 
 -- a name's number, where no name stands twice
@@ -84,8 +84,8 @@ postfix-none : (l : Bytes) (here done : ℕ) (r : Regex) → isSpace (getD l 0 p
     → postfixOn l here done r ≡ record { step = go done; tree = r }
 postfix-none [] here done r e f = refl
 postfix-none (b ∷ l) here done r e f =
-    let g = or-false-right (eqb b asterisk) _ f in
-    rw (e, or-false-left (eqb b asterisk) _ f, or-false-left (eqb b plusSign) _ g, or-false-right (eqb b plusSign) _ g)
+    let g = or-false-split (eqb b asterisk) _ f .1 in
+    rw (e, or-false-split (eqb b asterisk) _ f .0, or-false-split (eqb b plusSign) _ g .0, or-false-split (eqb b plusSign) _ g .1)
 
 module _ (s : Bytes) where
   postfix-here : (p done : ℕ) (r : Regex) → postfixOn (drop p s) p done r ≡ postfixOn (drop (spacesEnd s p) s) (spacesEnd s p) done r

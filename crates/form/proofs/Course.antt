@@ -9,6 +9,7 @@ use lib.Dec.{eqb, leb, ltb}
 use lib.ListN.{length, getD, drop, drop-of-length-le, length-map}
 use lib.Seq.{drop-cons}
 use borrow.Author.Tests.{ltb-true, ltb-false, leb-false}
+use Rattle.laws.proofs.Lists.{or-false-split, either}
 use Rattle.pattern.specs.Regex.{Regex, lit, cat, alt, star, plus, opt}
 use Rattle.pattern.specs.Positions.{size}
 use Rattle.form.specs.Text.{Bytes, space, isLower, Span}
@@ -21,7 +22,7 @@ use Rattle.form.specs.Lines.{bytesAt, indexOf}
 use Rattle.form.specs.Parse.{Parsed, failed, postfixOn, itemOf, nameAtom, unfit, closed, beginsItem, joined}
 use Rattle.form.specs.Parse.{alternationFrom, sequenceFrom, atomFrom}
 use Rattle.form.proofs.Scans.{spacesEnd-le, nameEnd-le, same-word}
-use Rattle.form.proofs.TokenScan.{by-test, by-equal, or-false-right, inside-of, tokensAt, word-token, sign-token}
+use Rattle.form.proofs.TokenScan.{by-equal, inside-of, tokensAt, word-token, sign-token}
 
 -- the number of a name, where it is found, is that name's
 index-found : (s w : Bytes) (symbols : List Span) → indexOf s symbols w < length symbols
@@ -65,7 +66,7 @@ module _ (s : Bytes) (symbols : List Span) where
     faulty l n q h = record { inside = h; sound = λ e. absurd (omega arith) }
 
     unfitting : (l : Level) (q : ℕ) → q ≤ length s → Course l d k p (failed (unfit s q))
-    unfitting l q h = by-test (λ n. Course l d k p (failed (fail n q))) (eqb (at s q) pastEnd) (λ _. faulty l 1 q h) (λ _. faulty l 5 q h)
+    unfitting l q h = either (λ n. Course l d k p (failed (fail n q))) (eqb (at s q) pastEnd) (λ _. faulty l 1 q h) (λ _. faulty l 5 q h)
 
     -- a step that goes on where a found no fault
     passing : {m : Level} {d′ k′ p′ : ℕ} (l : Level) (a : Parsed) {b : Parsed} → Course m d′ k′ p′ a → (Sound m d′ k′ p′ a → Course l d k p b)
@@ -125,9 +126,9 @@ module _ (s : Bytes) (symbols : List Span) where
           phrase = subst (λ v. Phrase names atom d (name v ∷ []) (lit a)) (index-found s w symbols i) (Phrase.symbol (rw length-map i));
           few = omega (arith, leb-false 31 k f);
         } in
-        by-test (Course atom d k p) (ltb 12 (nameEnd s q - q) || leb 31 k) (λ _. faulty atom 2 q le)
-        (λ f. by-test (Course atom d k p) (ltb a (length symbols))
-        (λ i. record { inside = nameEnd-le s q le; sound = λ _. known (or-false-right (ltb 12 (nameEnd s q - q)) _ f) (ltb-true a _ i) })
+        either (Course atom d k p) (ltb 12 (nameEnd s q - q) || leb 31 k) (λ _. faulty atom 2 q le)
+        (λ f. either (Course atom d k p) (ltb a (length symbols))
+        (λ i. record { inside = nameEnd-le s q le; sound = λ _. known (or-false-split (ltb 12 (nameEnd s q - q)) _ f .1) (ltb-true a _ i) })
         (λ _. faulty atom 4 q le))
 
     -- an alternation in parentheses
@@ -191,7 +192,7 @@ module _ (s : Bytes) (symbols : List Span) where
         let k′ = k + size (a .tree) in
         let x = item-course d k p (atomFrom s symbols n d k p) (atom-course n d k p h) in
         let more = sequence-course n d k′ e (x .inside) in
-        passing d k p sequence a x (λ y. by-test (Course sequence d k p) (beginsItem (at s (spacesEnd s e)))
+        passing d k p sequence a x (λ y. either (Course sequence d k p) (beginsItem (at s (spacesEnd s e)))
         (λ _. joined-course d k p sequence cat a (sequenceFrom s symbols n d k′ e) [] e y refl more (λ ts z. Phrase.then (y .phrase) z) refl)
         (λ _. record { inside = x .inside; sound = λ _. raised d k p sequence y (Phrase.last (y .phrase)) }))
 
@@ -202,7 +203,7 @@ module _ (s : Bytes) (symbols : List Span) where
         let le = spacesEnd-le s p h in
         let inner : at s q ≡ opening → Course alternation (d - 1) k (q + 1) (alternationFrom s symbols n (d - 1) k (q + 1))
         = λ c. alternation-course n (d - 1) k (q + 1) (inside-of s q opening c refl) in
-        by-test (Course atom d k p) (isLower (at s q)) (λ e. name-course d k p h e)
+        either (Course atom d k p) (isLower (at s q)) (λ e. name-course d k p h e)
         (λ _. by-equal (Course atom d k p) (at s q) opening
         (λ c. by-equal (Course atom d k p) d 0 (λ _. faulty d k p atom 2 q le) (λ z. group-course d k p c z _ (inner c)))
         (λ _. unfitting d k p atom q le))

@@ -9,6 +9,7 @@ use native.Mathlib.Decide.{decLt}
 use borrow.Author.Tests.{eqb-true}
 use lib.Dec.{eqb, leb, ltb}
 use lib.ListN.{length, drop, length-drop}
+use Rattle.laws.proofs.Lists.{either}
 use Rattle.pattern.specs.Regex.{Regex, cat, alt}
 use Rattle.meaning.specs.Events.{Place}
 use Rattle.form.specs.Text.{Bytes, Span, varsWord, space, lf, isLower}
@@ -21,11 +22,6 @@ use Rattle.form.specs.Parse.{Parsed, failed, postfixOn, itemOf, occurren
 use Rattle.form.specs.Parse.{alternationFrom, sequenceFrom, atomFrom, enough, patternFrom}
 use Rattle.form.specs.Reading.{lastLine}
 use Rattle.form.proofs.Scans.{spacesEnd-le, nameEnd-le, at-end}
-
--- what holds of both ways of a test
-pub either : {A : Type 0} (P : A → Type 0) (b : Bool) {x y : A} → (b ≡ true → P x) → (b ≡ false → P y) → P (cond b x y)
-either P true p q = p refl
-either P false p q = q refl
 
 -- a test before and after a function, and one whose ways are the same
 push : {A B : Type 0} (f : A → B) (b : Bool) (x y : A) → f (cond b x y) ≡ cond b (f x) (f y)

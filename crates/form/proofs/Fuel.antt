@@ -8,6 +8,7 @@ use borrow.Author.Tests.{eqb-true, eqb-false, leb-false}
 use mathlib.Core.List.{List, [], _∷_}
 use lib.Dec.{eqb, leb, ltb}
 use lib.ListN.{length, drop, length-drop}
+use Rattle.laws.proofs.Lists.{or-false-split, either}
 use Rattle.pattern.specs.Regex.{Regex, cat, alt}
 use Rattle.pattern.specs.Positions.{size}
 use Rattle.form.specs.Text.{Bytes, isLower, Span, space}
@@ -18,16 +19,12 @@ use Rattle.form.specs.Lines.{indexOf}
 use Rattle.form.specs.Parse.{Parsed, failed, itemOf, nameAtom, closed, unfit, beginsItem, joined, enough, alternationFrom, sequenceFrom, atomFrom}
 use Rattle.form.specs.Parse.{postfixOn, occurrenceLimit}
 use Rattle.form.proofs.Scans.{spacesEnd-le, spacesEnd-ge, nameEnd-le, nameEnd-gt}
-use Rattle.form.proofs.Faults.{either, before-end}
+use Rattle.form.proofs.Faults.{before-end}
 
 -- a way of a test matters only where the test goes that way
 agree : {A : Type 0} (b : Bool) {x x' y y' : A} → (b ≡ true → x ≡ x') → (b ≡ false → y ≡ y') → cond b x y ≡ cond b x' y'
 agree true f g = f refl
 agree false f g = g refl
-
-or-false-last : (a b : Bool) → (a || b) ≡ false → b ≡ false
-or-false-last true b h = cc
-or-false-last false b h = h
 
 -- one step of each reader, given what the others read
 module _ (s : Bytes) where
@@ -89,7 +86,7 @@ module _ (s : Bytes) (short : length s ≤ textLimit) (symbols : List Span) wher
       (λ _. record {
         inside = nameEnd-le s q i;
         beyond = λ _. omega (arith, nameEnd-gt s q l);
-        few = λ _. omega (arith, leb-false occurrenceLimit k (or-false-last (ltb 12 (e - q)) _ o));
+        few = λ _. omega (arith, leb-false occurrenceLimit k (or-false-split (ltb 12 (e - q)) _ o .1));
       })
       λ _. fault-ends k p 5 q (omega arith) i
 

@@ -8,14 +8,14 @@ use lib.Dec.{eqb}
 use lib.ListN.{length}
 use borrow.Author.Tests.{eqb-true, ne-eqb}
 use Rattle.laws.specs.Lists.{any}
-use Rattle.laws.proofs.Lists.{any-append}
+use Rattle.laws.proofs.Lists.{any-append, either}
 use Rattle.pattern.specs.Regex.{Regex}
 use Rattle.form.specs.Text.{Bytes, space, lf, isLower, isDigit, isNameByte}
 use Rattle.form.specs.Tokens.{Token, name, sign, ended, tokensAfter, tokens}
 use Rattle.form.specs.Phrase
 use Rattle.form.specs.Phrase.{Phrase, Level, opening, closing, bar, asterisk, plusSign, question}
 use Rattle.form.specs.Parse.{beginsItem}
-use Rattle.form.proofs.TokenScan.{by-test, nextIs, apart}
+use Rattle.form.proofs.TokenScan.{nextIs, apart}
 
 -- a test of signs, and whether the token is an LF
 abbrev pub signIs : (ℕ → Bool) → Token → Bool
@@ -44,14 +44,14 @@ tokens-lf (c ∷ v) (b ∷ l) =
 -- a test that fails bytes of names and spaces finds among the tokens what it finds among the bytes
 module _ (f : ℕ → Bool) (no-name : (b : ℕ) → isNameByte b ≡ true → f b ≡ false) (no-space : f space ≡ false) where
   apart-signs : (b : ℕ) (l : Bytes) → any (signIs f) (tokens l) ≡ any f l → any (signIs f) (apart b l) ≡ any f (b ∷ l)
-  apart-signs b l h = by-test (λ ts. any (signIs f) ts ≡ any f (b ∷ l)) (eqb b space) (λ e. rw (eqb-true b space e, no-space, h)) (λ _. rw h)
+  apart-signs b l h = either (λ ts. any (signIs f) ts ≡ any f (b ∷ l)) (eqb b space) (λ e. rw (eqb-true b space e, no-space, h)) (λ _. rw h)
 
   pub tokens-signs : (w l : Bytes) → any (signIs f) (tokensAfter w l) ≡ any f l
   tokens-signs [] [] = refl
   tokens-signs (c ∷ v) [] = refl
-  tokens-signs [] (b ∷ l) = by-test (λ ts. any (signIs f) ts ≡ any f (b ∷ l)) (isLower b)
+  tokens-signs [] (b ∷ l) = either (λ ts. any (signIs f) ts ≡ any f (b ∷ l)) (isLower b)
       (λ e. tokens-signs (b ∷ []) l ∙ rw (no-name b (ap (λ t. t || isDigit b) e))) (λ _. apart-signs b l (tokens-signs [] l))
-  tokens-signs (c ∷ v) (b ∷ l) = by-test (λ ts. any (signIs f) ts ≡ any f (b ∷ l)) (isNameByte b)
+  tokens-signs (c ∷ v) (b ∷ l) = either (λ ts. any (signIs f) ts ≡ any f (b ∷ l)) (isNameByte b)
       (λ e. tokens-signs (c ∷ v ++ (b ∷ [])) l ∙ rw (no-name b e)) (λ _. apart-signs b l (tokens-signs [] l))
 
 -- an LF among the tokens is one among the bytes
@@ -60,14 +60,14 @@ tokens-lines = tokens-signs (eqb lf) (λ b e. ne-eqb lf b (λ f. true≢false (s
 
 -- at most as many tokens as bytes, and one for a name begun before
 apart-length : (b : ℕ) (l : Bytes) → length (tokens l) ≤ length l → length (apart b l) ≤ suc (length l)
-apart-length b l h = by-test (λ ts. length ts ≤ suc (length l)) (eqb b space) (λ _. omega arith) (λ _. omega arith)
+apart-length b l h = either (λ ts. length ts ≤ suc (length l)) (eqb b space) (λ _. omega arith) (λ _. omega arith)
 
 pub tokens-length : (w l : Bytes) → length (tokensAfter w l) ≤ length (ended w []) + length l
 tokens-length [] [] = omega arith
 tokens-length (c ∷ v) [] = omega arith
-tokens-length [] (b ∷ l) = by-test (λ ts. length ts ≤ 0 + suc (length l)) (isLower b) (λ _. omega (arith, tokens-length (b ∷ []) l))
+tokens-length [] (b ∷ l) = either (λ ts. length ts ≤ 0 + suc (length l)) (isLower b) (λ _. omega (arith, tokens-length (b ∷ []) l))
     (λ _. omega (arith, apart-length b l (omega (arith, tokens-length [] l))))
-tokens-length (c ∷ v) (b ∷ l) = by-test (λ ts. length ts ≤ 1 + suc (length l)) (isNameByte b)
+tokens-length (c ∷ v) (b ∷ l) = either (λ ts. length ts ≤ 1 + suc (length l)) (isNameByte b)
     (λ _. omega (arith, tokens-length (c ∷ v ++ (b ∷ [])) l))
     (λ _. omega (arith, apart-length b l (omega (arith, tokens-length [] l))))
 

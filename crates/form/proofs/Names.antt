@@ -1,6 +1,6 @@
 -- Words as names: which are names, which of the declared names a word is, and the reader's tests for both.
 use mathlib.Core.Path.{_≡_, refl, sym, ap, ap₂, _∙_}
-use mathlib.Core.Bool.{Bool, true, false, cond, not, _&&_, _||_, true≢false, false≢true}
+use mathlib.Core.Bool.{Bool, true, false, cond, not, _&&_, _||_, false≢true}
 use mathlib.Core.List.{List, [], _∷_, _++_, map, List·Memᴰ·head, Memᴰ·append-right}
 use Prim.Native.Nat.{ℕ, zero, suc, _+_, _-_, _≤_, _<_}
 use native.Mathlib.Nat.{le-of-suc-le-suc}
@@ -10,7 +10,7 @@ use lib.Dec.{eqb, leb, ltb, leb·suc-suc}
 use lib.ListN.{length, getD, length-map}
 use lib.Seq.{getD-drop}
 use Rattle.laws.specs.Lists.{any, all}
-use Rattle.laws.proofs.Lists.{same-test, and-true-split, any-append, any-of, any-none, mem-getD}
+use Rattle.laws.proofs.Lists.{same-test, and-true-split, any-append, any-of, any-none, mem-getD, or-false-split}
 use Rattle.form.specs.Text.{Bytes, space, lf, isLower, isDigit, isNameByte, isName, ignoredWord, Span}
 use Rattle.form.specs.Form.{sameWord, distinct}
 use Rattle.form.specs.Scan.{at, pastEnd, run, part, isWordByte, wordEnd, nameEnd, nameFault}
@@ -139,10 +139,6 @@ index-getD (v ∷ vs) zero d h = rw (same-word v v .1 refl)
 index-getD (v ∷ vs) (suc i) d h =
     let a = and-true-split (not (known vs v)) (distinct vs) d in
     rw (any-none (sameWord v) (not-true (known vs v) (a .0)) (mem-getD vs i [] (le-of-suc-le-suc h))) (ap suc (index-getD vs i (a .1) (le-of-suc-le-suc h)))
-
-or-false-split : (a b : Bool) → (a || b) ≡ false → (a ≡ false) × (b ≡ false)
-or-false-split true b h = absurd (true≢false h)
-or-false-split false b h = (refl, h)
 
 -- names one by one
 pub distinct-fresh : (vs : List Bytes) (w : Bytes) (ws : List Bytes) → distinct (vs ++ (w ∷ ws)) ≡ true → known vs w ≡ false

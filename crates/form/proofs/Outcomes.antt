@@ -1,13 +1,13 @@
 -- What is known of the reading of any list of numbers, by the course over its lines and its pattern.
 use mathlib.Core.Path.{_≡_, refl}
-use mathlib.Core.Bool.{Bool, true, false, cond}
+use mathlib.Core.Bool.{Bool, true, cond}
 use mathlib.Core.Logic.{_⊎_, ⊎-elim}
 use Prim.Native.Nat.{ℕ, _+_, _≤_, _<_}
 use native.Mathlib.Omega.{arith}
 use borrow.Author.Tests.{le-ltb, ltb-true, ltb-false, leb-true, eqb-true, eqb-false, eq-eqb, not-true}
 use lib.Dec.{eqb, leb, ltb}
 use lib.ListN.{length}
-use Rattle.laws.proofs.Lists.{and-true-split}
+use Rattle.laws.proofs.Lists.{and-true-split, either}
 use Rattle.pattern.specs.Regex.{lit, nullable, boundBy}
 use Rattle.form.specs.Text.{Bytes, space}
 use Rattle.form.specs.Form.{textLimit}
@@ -17,7 +17,7 @@ use Rattle.form.specs.Parse.{Parsed, failed, patternFrom}
 use Rattle.form.specs.Reading.{Outcome, refused, lastLine, variablesOf, allBits, matchFrom, readingOf}
 use Rattle.form.proofs.Scans.{spacesEnd-le}
 use Rattle.form.proofs.Header.{lines-place}
-use Rattle.form.proofs.Faults.{either, stepInRange, lines-range, before-end, pattern-fit}
+use Rattle.form.proofs.Faults.{stepInRange, lines-range, before-end, pattern-fit}
 
 -- the pattern behind the lines, its first token's place, and whether every word binds every variable
 abbrev pub patternOf : Bytes → Parsed

@@ -11,6 +11,7 @@ use lib.ListN.{length, take, drop, length-append, length-drop, take-append-drop,
 use lib.Seq.{drop-cons, drop-drop, drop-append-le}
 use borrow.Author.Tests.{leb-true, leb-false, eq-eqb}
 use Rattle.laws.specs.Lists.{any, all}
+use Rattle.laws.proofs.Lists.{either}
 use Rattle.pattern.specs.Regex.{Regex}
 use Rattle.pattern.specs.Positions.{size}
 use Rattle.form.specs.Text.{Bytes, lf, isName, Span}
@@ -22,7 +23,7 @@ use Rattle.form.specs.Lines.{bytesAt}
 use Rattle.form.specs.Parse.{Parsed, failed, enough, patternFrom}
 use Rattle.form.specs.Reading.{lastLine}
 use Rattle.form.proofs.Scans.{spacesEnd-le}
-use Rattle.form.proofs.TokenScan.{by-test, by-equal, tokensAt, inside-of, sign-token, sign-found}
+use Rattle.form.proofs.TokenScan.{by-equal, tokensAt, inside-of, sign-token, sign-found}
 use Rattle.form.proofs.Grammar.{tokens-lf, tokens-lines, tokens-length, phrase-some, phrase-line}
 use Rattle.form.proofs.Course.{Sound, alternation-course}
 use Rattle.form.proofs.Complete.{phrase-read}
@@ -108,7 +109,7 @@ module _ (s : Bytes) (short : length s ≤ textLimit) (symbols : List Span) (p :
       by-equal Found (a .step .fault) 0
       (λ e. by-equal Found (at s q) lf
       (λ f. by-equal Found (q + 1) (length s) (λ g _. found-written a (x .sound e) f g) (λ _. none 1 (q + 1)))
-      (λ _. by-test (λ n. Found (failed (fail n q))) (eqb (at s q) pastEnd) (λ _. none 1 q) (λ _. none 5 q)))
+      (λ _. either (λ n. Found (failed (fail n q))) (eqb (at s q) pastEnd) (λ _. none 1 q) (λ _. none 5 q)))
       (λ e z. absurd (e z)) h
 
   -- a fault of the pattern stands inside the text

@@ -2,17 +2,18 @@
 use mathlib.Core.Path.{_≡_, refl, sym, ap, _∙_}
 use mathlib.Core.Bool.{Bool, true, false, cond, not, _||_, false≢true}
 use mathlib.Core.List.{[], _∷_}
-use mathlib.Core.Logic.{_↔_}
-use Prim.Native.Nat.{ℕ, zero, suc, compare, Ordering, Ordering·lt, Ordering·eq, Ordering·gt, _+_, _≤_, _<_}
+use mathlib.Core.Logic.{_↔_, _⊎_, inl, inr, ⊎-elim}
+use Prim.Native.Nat.{ℕ, zero, suc, compare, _+_, _≤_, _<_}
 use native.Mathlib.Omega.{arith}
 use borrow.Author.Tests.{not-true, eqb-false}
 use lib.Dec.{eqb}
-use lib.ListN.{length, drop, length-drop, List·getD-eq-default}
+use lib.ListN.{length, getD, drop, length-drop, List·getD-eq-default}
 use lib.Seq.{drop-cons}
 use Rattle.laws.specs.Lists.{all}
-use Rattle.laws.specs.Order.{isSame, lex}
+use Rattle.laws.specs.Order.{lex}
 use Rattle.laws.proofs.Lists.{and-true-split}
 use Rattle.laws.proofs.Order.{compare-order, lex-order}
+use Rattle.laws.proofs.Sets.{same-eq}
 use Rattle.form.specs.Text.{Bytes, isLower, isDigit, isNameByte}
 use Rattle.form.specs.Form.{sameWord}
 use Rattle.form.specs.Scan.{at, pastEnd, run, isSpace, isWordByte, spacesEnd, wordEnd, nameEnd}
@@ -66,6 +67,21 @@ nameEnd-ge s p = go (isLower (at s p))
 pub at-end : (s : Bytes) (p : ℕ) → length s ≤ p → at s p ≡ pastEnd
 at-end s p h = List·getD-eq-default s pastEnd h
 
+-- a run ends at the end or at a byte that fails the test
+pub run-end : (f : ℕ → Bool) (l : Bytes) → (run f l ≡ length l) ⊎ (f (getD l (run f l) pastEnd) ≡ false)
+run-end f [] = inl refl
+run-end f (b ∷ l) = go (f b) refl (run-end f l)
+  where
+    go : (t : Bool) → f b ≡ t → (run f l ≡ length l) ⊎ (f (getD l (run f l) pastEnd) ≡ false)
+        → (cond t (suc (run f l)) 0 ≡ suc (length l)) ⊎ (f (getD (b ∷ l) (cond t (suc (run f l)) 0) pastEnd) ≡ false)
+    go true e (inl h) = inl (ap suc h)
+    go true e (inr h) = inr h
+    go false e h = inr e
+
+-- which is one where 256 fails it too
+pub run-behind : (f : ℕ → Bool) → f pastEnd ≡ false → (l : Bytes) → f (getD l (run f l) pastEnd) ≡ false
+run-behind f h l = ⊎-elim (λ e. ap f (at-end l (run f l) (omega arith)) ∙ h) (λ e. e) (run-end f l)
+
 -- a test that 256 fails passes only inside
 pub inside-of : (f : ℕ → Bool) → f pastEnd ≡ false → (s : Bytes) (p : ℕ) → f (at s p) ≡ true → p < length s
 inside-of f e [] p k = absurd (false≢true (sym e ∙ k))
@@ -88,11 +104,6 @@ pub at-inside : (s : Bytes) (p : ℕ) → all (λ b. not (eqb b pastEnd)) s ≡ 
 at-inside [] p h e = omega arith
 at-inside (b ∷ s) zero h e = absurd (eqb-false b pastEnd (not-true _ (and-true-split (not (eqb b pastEnd)) _ h .0)) e)
 at-inside (b ∷ s) (suc p) h e = omega (arith, at-inside s p (and-true-split (not (eqb b pastEnd)) _ h .1) e)
-
-same-eq : (o : Ordering) → isSame o ≡ true → o ≡ Ordering·eq
-same-eq Ordering·lt h = cc
-same-eq Ordering·eq h = refl
-same-eq Ordering·gt h = cc
 
 -- the same word is the same bytes
 pub same-word : (v w : Bytes) → (sameWord v w ≡ true) ↔ (v ≡ w)

@@ -1,34 +1,24 @@
 -- The tokens from a place of a text on: what the next one is, by the byte behind the spaces.
 use mathlib.Core.Path.{_≡_, refl, sym, ap, _∙_}
-use mathlib.Core.Bool.{Bool, true, false, cond, _||_, true≢false}
+use mathlib.Core.Bool.{Bool, true, false, cond, not, _||_, true≢false}
 use mathlib.Core.List.{List, [], _∷_, _++_, append-assoc, append-nil}
 use Prim.Native.Nat.{ℕ, suc, _+_, _-_, _≤_}
 use native.Mathlib.Numerals.{add-one}
 use native.Mathlib.Omega.{arith}
 use lib.Dec.{eqb, ltb}
-use lib.ListN.{length, getD, take, drop, drop-of-length-le}
+use lib.ListN.{length, take, drop, drop-of-length-le}
 use lib.Seq.{drop-cons, drop-drop, getD-drop}
 use borrow.Author.Tests.{eqb-true, eqb-false, ltb-true, ltb-false}
+use Rattle.laws.proofs.Lists.{or-false-split, either}
 use Rattle.form.specs.Text.{Bytes, space, isLower, isDigit, isNameByte}
 use Rattle.form.specs.Tokens.{Token, name, sign, tokensAfter, tokens}
 use Rattle.form.specs.Scan.{at, pastEnd, run, isSpace, spacesEnd, nameEnd, part}
-use Rattle.form.proofs.Scans.{at-end}
+use Rattle.form.proofs.Scans as Scans
+use Rattle.form.proofs.Scans.{at-end, run-behind}
 
--- what holds for both results of a test
-pub by-test : {A : Type 0} (P : A → Type 0) (t : Bool) {x y : A} → (t ≡ true → P x) → (t ≡ false → P y) → P (cond t x y)
-by-test P true f g = f refl
-by-test P false f g = g refl
-
+-- what holds for both results of a comparison
 pub by-equal : {A : Type 0} (P : A → Type 0) (m n : ℕ) {x y : A} → (m ≡ n → P x) → ((m ≡ n → ⊥) → P y) → P (cond (eqb m n) x y)
-by-equal P m n f g = by-test P (eqb m n) (λ e. f (eqb-true m n e)) (λ e. g (eqb-false m n e))
-
-pub or-false-left : (a b : Bool) → (a || b) ≡ false → a ≡ false
-or-false-left true b h = absurd (true≢false h)
-or-false-left false b h = refl
-
-pub or-false-right : (a b : Bool) → (a || b) ≡ false → b ≡ false
-or-false-right true b h = absurd (true≢false h)
-or-false-right false b h = h
+by-equal P m n f g = either P (eqb m n) (λ e. f (eqb-true m n e)) (λ e. g (eqb-false m n e))
 
 -- the tokens from a place on, through all lines: an LF is a sign here
 abbrev pub tokensAt : Bytes → ℕ → List Token
@@ -56,9 +46,9 @@ tokens-name c v (b ∷ l) = go (isNameByte b) refl (tokens-name c (v ++ (b ∷ [
     go : (t : Bool) → isNameByte b ≡ t → longer ≡ name (c ∷ (v ++ (b ∷ [])) ++ take r l) ∷ tokens (drop r l)
         → cond t longer (name (c ∷ v) ∷ apart b l) ≡ name (c ∷ v ++ take (cond t (suc r) 0) (b ∷ l)) ∷ tokens (drop (cond t (suc r) 0) (b ∷ l))
     go true e h = rw (h, append-assoc)
-    go false e h = rw (append-nil, tokens-apart b l (or-false-left (isLower b) _ e))
+    go false e h = rw (append-nil, tokens-apart b l (or-false-split (isLower b) _ e .0))
 
--- spaces are free, and end at a byte that is none
+-- spaces are free
 tokens-spaces : (l : Bytes) → tokens l ≡ tokens (drop (run isSpace l) l)
 tokens-spaces [] = refl
 tokens-spaces (b ∷ l) = go (isSpace b) refl (tokens-spaces l)
@@ -67,15 +57,6 @@ tokens-spaces (b ∷ l) = go (isSpace b) refl (tokens-spaces l)
         → tokens (b ∷ l) ≡ tokens (drop (cond t (suc (run isSpace l)) 0) (b ∷ l))
     go true e h = rw (eqb-true b space e, h)
     go false e h = refl
-
-spaces-end : (l : Bytes) → isSpace (getD l (run isSpace l) pastEnd) ≡ false
-spaces-end [] = refl
-spaces-end (b ∷ l) = go (isSpace b) refl (spaces-end l)
-  where
-    go : (t : Bool) → isSpace b ≡ t → isSpace (getD l (run isSpace l) pastEnd) ≡ false
-        → isSpace (getD (b ∷ l) (cond t (suc (run isSpace l)) 0) pastEnd) ≡ false
-    go true e h = h
-    go false e h = e
 
 -- a name from its first letter on
 tokens-word : (b : ℕ) (l : Bytes) → isLower b ≡ true
@@ -98,11 +79,7 @@ name-at s q e h =
 
 -- a byte stands before the end
 pub inside-of : (s : Bytes) (q c : ℕ) → at s q ≡ c → eqb c pastEnd ≡ false → q + 1 ≤ length s
-inside-of s q c e n = decide (ltb q (length s)) refl
-  where
-    decide : (t : Bool) → ltb q (length s) ≡ t → q + 1 ≤ length s
-    decide true h = omega (arith, ltb-true q (length s) h)
-    decide false h = absurd (true≢false (ap (λ b. eqb b pastEnd) (sym (at-end s q (ltb-false q (length s) h)) ∙ e) ∙ n))
+inside-of s q c e n = omega (arith, Scans.inside-of (λ b. not (eqb b pastEnd)) refl s q (rw (e, n)))
 
 -- a test of the first token: the answer at a name, and the test of a sign
 abbrev pub nextIs : Bool → (ℕ → Bool) → List Token → Bool
@@ -117,7 +94,7 @@ module _ (s : Bytes) (p : ℕ) where
 
   pub here-space : isSpace (at s here) ≡ false
   unfolding spacesEnd
-  here-space = rw (← getD-drop) (spaces-end (drop p s))
+  here-space = rw (← getD-drop) (run-behind isSpace refl (drop p s))
 
   tokens-here : tokensAt s p ≡ tokensAt s here
   unfolding spacesEnd

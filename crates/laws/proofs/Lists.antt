@@ -35,6 +35,15 @@ pub or-true-split : (a b : Bool) → (a || b) ≡ true → (a ≡ true) ⊎ (b �
 or-true-split true b h = inl refl
 or-true-split false b h = inr h
 
+pub or-false-split : (a b : Bool) → (a || b) ≡ false → (a ≡ false) × (b ≡ false)
+or-false-split true b h = absurd (true≢false h)
+or-false-split false b h = (refl, h)
+
+-- what holds of both ways of a test
+pub either : {A : Type 0} (P : A → Type 0) (b : Bool) {x y : A} → (b ≡ true → P x) → (b ≡ false → P y) → P (cond b x y)
+either P true f g = f refl
+either P false f g = g refl
+
 or-swap : (a b c d : Bool) → (a || b || (c || d)) ≡ (a || c || (b || d))
 or-swap true b c d = refl
 or-swap false true c d = sym (or-true c)
@@ -258,6 +267,10 @@ module _ {A : Type 0} where
 
   pub taken-none : (l : List A) (n i : ℕ) → n ≤ i → drop i (take n l) ≡ []
   taken-none l n i h = drop-of-length-le (take n l) {i = i} (omega (arith, length-take n l))
+
+  -- one of the first n elements, where all of them pass
+  pub all-taken : (f : A → Bool) (n : ℕ) (l : List A) (i : ℕ) (d : A) → all f (take n l) ≡ true → n ≤ length l → i < n → f (getD l i d) ≡ true
+  all-taken f n l i d h k g = rw (getD-take n l i d g) at (all-at f h (mem-getD (take n l) i d (omega (arith, length-take-le n l k))))
 
   -- a list from its other end
   pub take-reverse : (k : ℕ) (l : List A) → k ≤ length l → take k (reverse l) ≡ reverse (drop (length l - k) l)

@@ -1,15 +1,16 @@
 -- Maps over lists, tests and ordered sets. A map that keeps the comparison of the elements that occur commutes with the
 -- making of sets, and what follows two lists of one length does not change how they compare.
-use mathlib.Core.Path.{_≡_, refl, ap, ap₂, _∙_}
+use mathlib.Core.Path.{_≡_, refl, sym, ap, ap₂, _∙_}
 use mathlib.Core.Bool.{Bool, true, false, cond, _&&_}
 use mathlib.Core.List.{List, [], _∷_, _++_, map, map-append, List·Memᴰ, List·Memᴰ·head, List·Memᴰ·tail, List·Memᴰ·not-nil}
 use mathlib.Core.Logic.{⊎-elim}
-use Prim.Native.Nat.{ℕ, zero, suc, Ordering, Ordering·lt, Ordering·eq, Ordering·gt}
+use Prim.Native.Nat.{ℕ, zero, suc, _+_, _≤_, _<_, Ordering, Ordering·lt, Ordering·eq, Ordering·gt}
 use native.Mathlib.Omega.{arith}
-use lib.ListN.{length, take, replicate}
+use lib.ListN.{length, take, drop, getD, replicate}
 use Rattle.laws.specs.Lists.{all, keep, gather}
 use Rattle.laws.specs.Order.{IsOrder, isLess, andThen, lex, rising, ascending}
 use Rattle.laws.specs.Sets.{put, insert, insertAll, setOf}
+use Rattle.laws.proofs.Lists.{taken-cons, taken-none}
 use Rattle.laws.proofs.Order.{lex-order}
 use Rattle.laws.proofs.Sets.{mem-insert}
 
@@ -39,6 +40,20 @@ module _ {A B : Type 0} where
   take-map f zero l = refl
   take-map f (suc n) [] = refl
   take-map f (suc n) (x ∷ l) = ap (f x ∷_) (take-map f n l)
+
+  drop-map : (f : A → B) (n : ℕ) (l : List A) → drop n (map f l) ≡ map f (drop n l)
+  drop-map f zero l = refl
+  drop-map f (suc n) [] = refl
+  drop-map f (suc n) (x ∷ l) = drop-map f n l
+
+  -- the first n elements mapped, from number i on, by the first of them
+  pub mapped-cons : (f : A → B) (l : List A) (n i : ℕ) (d : A) → i < n → n ≤ length l
+      → drop i (map f (take n l)) ≡ f (getD l i d) ∷ drop (i + 1) (map f (take n l))
+  mapped-cons f l n i d h k =
+      drop-map f i (take n l) ∙ ap (map f) (taken-cons l n i d h k) ∙ ap (f (getD l i d) ∷_) (sym (drop-map f (i + 1) (take n l)))
+
+  pub mapped-none : (f : A → B) (l : List A) (n i : ℕ) → n ≤ i → drop i (map f (take n l)) ≡ []
+  mapped-none f l n i h = drop-map f i (take n l) ∙ ap (map f) (taken-none l n i h)
 
   pub gather-map : {C : Type 0} (g : B → List C) (f : A → B) (l : List A) → gather g (map f l) ≡ gather (λ x. g (f x)) l
   gather-map g f [] = refl

@@ -23,7 +23,7 @@ less-lt Ordering·lt h = refl
 less-lt Ordering·eq h = cc
 less-lt Ordering·gt h = cc
 
-same-eq : (c : Ordering) → isSame c ≡ true → c ≡ Ordering·eq
+pub same-eq : (c : Ordering) → isSame c ≡ true → c ≡ Ordering·eq
 same-eq Ordering·lt h = cc
 same-eq Ordering·eq h = refl
 same-eq Ordering·gt h = cc

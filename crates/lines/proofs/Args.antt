@@ -9,7 +9,7 @@ use borrow.Author.Tests.{leb-true, eq-eqb, ne-eqb}
 use lib.Dec.{leb, eqb}
 use lib.ListN.{length, take, drop, set, length-append}
 use Rattle.laws.specs.Lists.{all}
-use Rattle.laws.proofs.Lists.{all-append, and-true-split}
+use Rattle.laws.proofs.Lists.{all-append, and-true-split, either}
 use Rattle.form.specs.Text.{Bytes, Span, isDigit}
 use Rattle.form.specs.Form.{sameWord}
 use Rattle.form.specs.Scan as Scan
@@ -19,7 +19,6 @@ use Rattle.form.specs.Lines.{bytesAt, indexOf, wantWord, Arguments, argumentFau
 use Rattle.meaning.specs.Events as Events
 use Rattle.meaning.specs.Events.{Place}
 use Rattle.meaning.specs.Meaning.{noSymbol}
-use Rattle.form.proofs.Faults.{either}
 use Rattle.form.proofs.Words.{Gap, gap, byte-inside}
 use Rattle.text.specs.Steps.{stepOf}
 use Rattle.text.specs.declared.Step.{Step}

@@ -8,7 +8,7 @@ use borrow.Author.Tests.{eqb-true}
 use lib.Dec.{eqb, ltb}
 use lib.ListN.{length, set, length-append}
 use Rattle.laws.specs.Lists.{all}
-use Rattle.laws.proofs.Lists.{all-more}
+use Rattle.laws.proofs.Lists.{all-more, either}
 use Rattle.meaning.specs.Events.{Place, ignored, names}
 use Rattle.meaning.specs.Book.{soundPlace}
 use Rattle.form.specs.Text.{Bytes, Span, ignoredWord}
@@ -16,7 +16,6 @@ use Rattle.form.specs.Form.{sameWord}
 use Rattle.form.specs.Scan.{Step, go, fail, part, wordEnd, nextWord, nameFault, kindOf}
 use Rattle.form.specs.Lines.{spanOf, indexOf, declareFault, Variables, variablesFrom, argumentFault, argumentOf, Arguments, argumentsFrom}
 use Rattle.form.specs.Lines.{wantWord, SymbolRead, noSymbolRead, kindFrom, Table, symbolFrom, withSymbol}
-use Rattle.form.proofs.Faults.{either}
 use Rattle.table.specs.Tables.{tableOf, viewTable, inside, Ready}
 use Rattle.table.specs.declared.Table as Tables
 use Rattle.table.proofs.Codes.{view-table, ready-symbol}

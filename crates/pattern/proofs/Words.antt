@@ -1,11 +1,11 @@
 -- What the computed flag and the computed mask say of the words of a pattern.
 use mathlib.Core.Path.{_≡_, refl, sym, _∙_}
-use mathlib.Core.Bool.{Bool, true, false, _||_, true≢false, false≢true}
+use mathlib.Core.Bool.{Bool, true, false, false≢true}
 use mathlib.Core.List.{List, [], _∷_, _++_, nil≢cons, append-nil}
 use mathlib.Core.Logic.{_↔_, inl, inr, ⊎-elim, Iff·and, Iff·symm, Iff·trans}
 use Prim.Native.Nat.{ℕ}
 use Rattle.laws.proofs.Bits.{bit-join, bit-meet}
-use Rattle.laws.proofs.Lists.{and-false-split, any-append}
+use Rattle.laws.proofs.Lists.{and-false-split, or-false-split, any-append}
 use Rattle.laws.specs.Bits.{bit}
 use Rattle.laws.specs.Lists.{any}
 use Rattle.pattern.proofs.Members.{or-iff, and-true-iff, or-true-iff, has-zero}
@@ -22,10 +22,6 @@ empty-word (star r) = (λ h. refl, λ e. none)
 empty-word (plus r) =
     (λ h. empty-word r .0 (then-nil (In r) (Repeat (In r)) .0 h .0), λ e. then-nil (In r) (Repeat (In r)) .1 (empty-word r .1 e, none))
 empty-word (opt r) = (λ h. refl, λ e. inl refl)
-
-or-false : (a b : Bool) → (a || b) ≡ false → (a ≡ false) × (b ≡ false)
-or-false true b e = absurd (true≢false e)
-or-false false b e = (refl, e)
 
 module _ (vars : ℕ → ℕ) (v : ℕ) where
   abbrev binds : List ℕ → Bool
@@ -46,7 +42,7 @@ module _ (vars : ℕ → ℕ) (v : ℕ) where
   pub free : (r : Regex) → bit v (boundBy vars r) ≡ false → (w : List ℕ) × In r w × (binds w ≡ false)
   free (lit a) h = (a ∷ [], refl, rw h)
   free (cat r s) h =
-      let e = or-false _ _ (rw bit-join at h) in
+      let e = or-false-split _ _ (rw bit-join at h) in
       let t = free r (e .0) in
       let u = free s (e .1) in
       (t .0 ++ u .0, (t .0, u .0, refl, t .1, u .1), rw (any-append, t .2, u .2))

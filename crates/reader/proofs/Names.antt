@@ -8,13 +8,12 @@ use native.Mathlib.Omega.{arith}
 use lib.Dec.{eqb}
 use lib.ListN.{length, getD, length-append, length-map, List·getD-eq-default, List·getD-map}
 use borrow.Author.Tests.{le-leb, leb-true, eqb-true, eqb-false}
-use Rattle.laws.proofs.Lists.{all-getD}
+use Rattle.laws.proofs.Lists.{all-getD, either}
 use Rattle.laws.proofs.Parts.{pad-at}
 use Rattle.form.specs.Text.{Bytes, Span}
 use Rattle.form.specs.Lines.{Table}
 use Rattle.form.specs.Reading.{readingOf}
 use Rattle.form.proofs.Accepted.{refused-empty}
-use Rattle.form.proofs.Faults.{either}
 use Rattle.form.proofs.Outcomes.{known}
 use Rattle.table.specs.Tables.{tableOf, viewTable, nameOf, noName, inside, Ready}
 use Rattle.table.proofs.Codes.{Fits, ready-fits, ready-none}

@@ -1,16 +1,12 @@
 -- What a disjunct gives past a constraint, one demand at a time: none or one disjunct, and one insertion of it. For skip_from
 -- and skip_one.
-use mathlib.Core.Path.{_≡_, refl, sym, ap, _∙_}
+use mathlib.Core.Path.{_≡_, refl, ap, _∙_}
 use mathlib.Core.Bool.{Bool, true, false, cond, _&&_, and-true}
 use mathlib.Core.List.{List, [], _∷_, map}
 use Prim.Native.Nat.{ℕ, zero, suc, _+_, _≤_, _<_}
-use native.Mathlib.Numerals.{add-one}
-use native.Mathlib.Omega.{arith}
-use lib.Dec.{leb, ltb}
-use lib.ListN.{length, take, drop, getD, set, length-map, length-take, drop-of-length-le, List·getD-map}
-use lib.Seq.{getD-take, drop-cons, length-take-le}
-use borrow.Author.Tests.{ltb-true}
-use Rattle.laws.specs.Lists.{all, keep}
+use lib.Dec.{leb}
+use lib.ListN.{length, drop, getD, set}
+use Rattle.laws.specs.Lists.{keep}
 use Rattle.laws.specs.Sets.{insert, Grown, full, grown, within}
 use Rattle.laws.proofs.Lists.{and-true-split}
 use Rattle.meaning.specs.Events as Events
@@ -18,8 +14,8 @@ use Rattle.meaning.specs.Labels.{Entry, Disjunct, entryOf, isFree, exclusions, 
 use Rattle.meaning.specs.Room.{exclusionLimit, heldLimit, fewExclusions}
 use Rattle.work.specs.Bounded.{growFew}
 use Rattle.constraint.specs.declared.Constraint.{Constraint}
-use Rattle.constraint.specs.declared.Demand.{Demand}
-use Rattle.constraint.specs.Constraints.{viewDemand, demandsIn, noDemand, viewConstraint, Ready}
+use Rattle.constraint.specs.Constraints.{viewDemand, demandsIn, viewConstraint}
+use Rattle.constraint.proofs.Views.{emptyDemand, demands-next}
 
 -- the demands of a list whose variable D leaves free, each excluded
 abbrev pub given : Disjunct → List Events.Demand → List Disjunct
@@ -59,48 +55,18 @@ pub given-cons : (D : Disjunct) (x : Events.Demand) (ds : List Events.Demand) (g
     → growFew (given D (x ∷ ds)) g ≡ growFew (given D ds) (growFew (given D (x ∷ [])) g)
 given-cons D x ds g = go (isFree (entryOf D (x .variable)))
   where
-    go : (b : Bool) → growFew (map (exclude D) (cond b (x ∷ keep (λ x. isFree (entryOf D (x .variable))) ds) (keep (λ x. isFree (entryOf D (x .variable))) ds))) g
-        ≡ growFew (given D ds) (growFew (map (exclude D) (cond b (x ∷ []) [])) g)
+    go : (b : Bool) → let later = keep (λ x. isFree (entryOf D (x .variable))) ds in
+        growFew (map (exclude D) (cond b (x ∷ later) later)) g ≡ growFew (given D ds) (growFew (map (exclude D) (cond b (x ∷ []) [])) g)
     go true = refl
     go false = refl
 
--- the demand at i, as the code holds it
-pub demand-at : (c : Constraint) (i : ℕ) (d : Demand) → viewDemand d ≡ noDemand → i < c .count
-    → getD (demandsIn c) i noDemand ≡ viewDemand (getD (c .demands) i d)
-unfolding demandsIn
-demand-at c i d e h =
-    ap (getD (map viewDemand (take (c .count) (c .demands))) i) (sym e) ∙ List·getD-map viewDemand (take (c .count) (c .demands)) i d
-    ∙ ap viewDemand (getD-take (c .count) (c .demands) i d h)
-
-all-getD : {A : Type 0} (f : A → Bool) (l : List A) (i : ℕ) (d : A) → f d ≡ true → all f l ≡ true → f (getD l i d) ≡ true
-all-getD f [] i d e h = e
-all-getD f (x ∷ l) zero d e h = and-true-split (f x) (all f l) h .0
-all-getD f (x ∷ l) (suc i) d e h = all-getD f l i d e (and-true-split (f x) (all f l) h .1)
-
--- its variable is one of four
-pub demand-variable : (c : Constraint) (i : ℕ) (d : Demand) → viewDemand d ≡ noDemand → i < c .count → Ready c → getD (c .demands) i d .variable < 4
-demand-variable c i d e h r =
-    let s : ltb (getD (demandsIn c) i noDemand .variable) 4 ≡ true = all-getD (λ x. ltb (x .variable) 4) (demandsIn c) i noDemand refl (r .within) in
-    ltb-true _ 4 (ap (λ x. ltb (x .variable) 4) (sym (demand-at c i d e h)) ∙ s)
-
--- the demands ahead
-pub demands-none : (c : Constraint) (i : ℕ) → c .count ≤ i → drop i (demandsIn c) ≡ []
-unfolding demandsIn
-demands-none c i h = drop-of-length-le (demandsIn c) {i = i} (simp (length-map, length-take) (omega arith))
-
-pub demands-cons : (c : Constraint) (i : ℕ) → i < c .count → c .count ≤ length (c .demands)
-    → drop i (demandsIn c) ≡ getD (demandsIn c) i noDemand ∷ drop (i + 1) (demandsIn c)
-unfolding demandsIn
-demands-cons c i h k = rw (add-one i) (drop-cons (demandsIn c) i noDemand (simp (length-map, length-take-le) (omega arith)))
-
 -- the demands from i on give what the i-th gives, as the code holds it, and then what the others give
-pub given-ahead : (c : Constraint) (D : Disjunct) (i : ℕ) (d : Demand) (g : Grown Disjunct) → viewDemand d ≡ noDemand → i < c .count → c .count ≤ length (c .demands)
+pub given-ahead : (c : Constraint) (D : Disjunct) (i : ℕ) (g : Grown Disjunct) → i < c .count → c .count ≤ length (c .demands)
     → growFew (given D (drop i (demandsIn c))) g
-    ≡ growFew (given D (drop (i + 1) (demandsIn c))) (growFew (given D (viewDemand (getD (c .demands) i d) ∷ [])) g)
-given-ahead c D i d g e h k =
-    let later = drop (i + 1) (demandsIn c) in
-    ap (λ ds. growFew (given D ds) g) (demands-cons c i h k ∙ ap (λ x. x ∷ later) (demand-at c i d e h))
-    ∙ given-cons D (viewDemand (getD (c .demands) i d)) later g
+    ≡ growFew (given D (drop (i + 1) (demandsIn c))) (growFew (given D (viewDemand (getD (c .demands) i emptyDemand) ∷ [])) g)
+given-ahead c D i g h k =
+    ap (λ ds. growFew (given D ds) g) (demands-next c i h k)
+    ∙ given-cons D (viewDemand (getD (c .demands) i emptyDemand)) (drop (i + 1) (demandsIn c)) g
 
 -- d past c by whether they meet
 pub skip-met : (c : Constraint) (D : Disjunct) → meets D (viewConstraint c) ≡ true → skipOne (viewConstraint c) D ≡ given D (demandsIn c)

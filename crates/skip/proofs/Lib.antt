@@ -3,4 +3,3 @@ pub mod Words
 pub mod Demands
 pub mod Growth
 pub mod Picks
-pub mod Constraints

@@ -9,9 +9,9 @@ use lib.Dec.{eqb}
 use lib.ListN.{length, take, drop, getD, set}
 use lib.Seq.{take-suc-set}
 use borrow.Author.Tests.{eq-eqb, ne-eqb}
+use Rattle.laws.proofs.Lists.{taken-cons}
 use Rattle.meaning.specs.Labels.{Disjunct}
 use Rattle.work.specs.Bounded.{pick}
-use Rattle.skip.proofs.Words.{taken-cons}
 
 -- the disjuncts of position p among the first n from i on
 abbrev pub ahead : (p : ℕ) → List ℕ → List Disjunct → (n i : ℕ) → List Disjunct

@@ -58,8 +58,7 @@ module _ (s : Slot) (x : ℕ) where
       gap-slot =
           excluding-free h ∙ ap free (insert-gap x (exclusions (viewSlot s)) (λ l e. m (omega arith) (sym (at-place (omega arith)) ∙ e)) ∙ opened)
         where
-          opened : take (smaller x (exclusions (viewSlot s))) (exclusions (viewSlot s)) ++ x ∷ drop (smaller x (exclusions (viewSlot s))) (exclusions (viewSlot s))
-              ≡ gap (s .excluded) k x n
+          opened : let l = exclusions (viewSlot s) in take (smaller x l) l ++ x ∷ drop (smaller x l) l ≡ gap (s .excluded) k x n
           opened = rw (← q, firsts, take-take k n (s .excluded) place-few)
 
       -- it has room if the code says so

@@ -14,7 +14,7 @@ use Rattle.meaning.specs.Labels as Labels
 use Rattle.meaning.specs.Labels.{freeDisjunct, heldAt}
 use Rattle.work.specs.Wide.{wide, wideHeld}
 use Rattle.work.specs.Bounded.{heldOf}
-use Rattle.work.proofs.Picks.{held-of-length}
+use Rattle.work.proofs.Picks.{held-of-length, held-positions}
 use Rattle.disjunct.specs.declared.Disjunct.{Disjunct}
 use Rattle.disjunct.specs.Disjuncts.{viewDisjunct, disjunctOf}
 use Rattle.disjunct.proofs.Disjuncts.{view-disjunct}
@@ -30,17 +30,12 @@ copy-more : {A : Type 0} (l r : List A) (i : ℕ) (d : A) → i < length l → i
     → take (i + 1) (set r i (getD l i d)) ≡ take (i + 1) l
 copy-more l r i d h k e = rw (add-one i) (take-suc-set r i (getD l i d) k ∙ rw (take-suc l i d h, e))
 
--- of what is held: made wide, its positions, its disjuncts as the code's
+-- of what is held: made wide, its disjuncts as the code's
 held-wide : (ps : List ℕ) (l : List Labels.Disjunct) → map wideHeld (heldOf ps l) ≡ heldOf ps (map wide l)
 unfolding wideHeld
 held-wide [] l = refl
 held-wide (p ∷ ps) [] = refl
 held-wide (p ∷ ps) (D ∷ l) = ap (λ r. heldAt p (wide D) ∷ r) (held-wide ps l)
-
-held-positions : (ps : List ℕ) (l : List Labels.Disjunct) → length ps ≡ length l → map (λ h. h .position) (heldOf ps l) ≡ ps
-held-positions [] l h = refl
-held-positions (p ∷ ps) [] h = absurd (omega arith)
-held-positions (p ∷ ps) (D ∷ l) h = ap (λ r. p ∷ r) (held-positions ps l (omega arith))
 
 held-disjuncts : (ps : List ℕ) (l : List Labels.Disjunct) → length ps ≡ length l → map (λ h. disjunctOf (h .disjunct)) (heldOf ps l) ≡ map disjunctOf l
 held-disjuncts [] [] h = refl
@@ -146,5 +141,5 @@ module _ (number : ℕ) (at words : List ℕ) (n : ℕ) (s : State) where
         let same : length ps ≡ length l = length-take-le n at (omega (arith, g .long)) ∙ sym many in
         ap₂ (λ x k. places x k (s .positions) (s .pool)) (g .numbered) (sym (held-of-length ps l same ∙ many))
         ∙ ap₂ (places number (length held))
-        (rw e at (g .positions) ∙ ap (pad 128 0) (sym (held-positions ps l same)))
+        (rw e at (g .positions) ∙ ap (pad 128 0) (sym (held-positions ps l (omega arith))))
         (rw e at (g .pool) ∙ ap (pad 128 (disjunctOf [])) (take-map disjunctOf n (disjunctsIn words) ∙ sym (held-disjuncts ps l same)))

@@ -1,75 +1,41 @@
--- What is met of a list of disjuncts, put into a set: of one disjunct, of one list after another, of the start alone; and a set
--- that is small enough. For the proofs of the step set.
+-- What is met of a list of disjuncts, put into a set: of one disjunct, of one list after another, of the start alone. For the proofs
+-- of the step set.
 use mathlib.Core.Path.{_≡_, refl, sym, ap, _∙_}
-use mathlib.Core.Bool.{Bool, true, false, cond}
-use mathlib.Core.List.{List, [], _∷_, _++_, map, map-append}
-use Prim.Native.Nat.{ℕ, _≤_, _<_, Ordering}
+use mathlib.Core.Bool.{Bool, true, false}
+use mathlib.Core.List.{List, [], _∷_, _++_}
+use Prim.Native.Nat.{_≤_, Ordering}
 use native.Mathlib.Omega.{arith}
-use lib.Dec.{leb}
 use lib.ListN.{length, length-map}
-use borrow.Author.Tests.{leb-false, le-leb, lt-leb}
 use Rattle.laws.specs.Lists.{keep}
 use Rattle.laws.specs.Order.{ascending}
-use Rattle.laws.specs.Sets.{insert, insertAll, Grown, full, grown, within}
-use Rattle.laws.proofs.Lists.{keep-append, keep-length}
+use Rattle.laws.specs.Sets.{insert, insertAll, Grown, within}
+use Rattle.laws.proofs.Lists.{keep-length}
 use Rattle.laws.proofs.Sets.{length-insertAll, setOf-ascending}
 use Rattle.meaning.specs.Events.{Constraint, never}
 use Rattle.meaning.specs.Labels.{Disjunct, freeDisjunct, compareDisjuncts, meets, met}
 use Rattle.meaning.proofs.Orders.{disjunct-order}
 use Rattle.work.specs.Bounded.{withStart, metList, metSet}
+use Rattle.work.proofs.RowSets.{met-append, met-never, met-one, met-none}
 
-module _ {A : Type 0} where
-  pub within-few : (cap : ℕ) (l : List A) → length l ≤ cap → within cap l ≡ grown l
-  within-few cap l h = rw (le-leb (length l) cap h)
-
-  pub within-many : (cap : ℕ) (l : List A) → cap < length l → within cap l ≡ full
-  within-many cap l h = rw (lt-leb (length l) cap h)
-
-  pub within-grown : (cap : ℕ) (l k : List A) → within cap l ≡ grown k → k ≡ l
-  within-grown cap l k h = go (leb (length l) cap) h
-    where
-      go : (b : Bool) → cond b (grown l) full ≡ grown k → k ≡ l
-      go true e = cc
-      go false e = cc
-
-  pub within-full : (cap : ℕ) (l : List A) → within cap l ≡ full → cap < length l
-  within-full cap l h = go (leb (length l) cap) refl h
-    where
-      go : (b : Bool) → leb (length l) cap ≡ b → cond b (grown l) full ≡ full → cap < length l
-      go true t e = let z : _≡_ {A = ℕ} 0 1 = cc in absurd (omega arith)
-      go false t e = leb-false (length l) cap t
-
-  insertAll-append : (cmp : A → A → Ordering) (a b l : List A) → insertAll cmp (a ++ b) l ≡ insertAll cmp b (insertAll cmp a l)
-  insertAll-append cmp [] b l = refl
-  insertAll-append cmp (x ∷ a) b l = insertAll-append cmp a b (insert cmp x l)
+insertAll-append : {A : Type 0} (cmp : A → A → Ordering) (a b l : List A) → insertAll cmp (a ++ b) l ≡ insertAll cmp b (insertAll cmp a l)
+insertAll-append cmp [] b l = refl
+insertAll-append cmp (x ∷ a) b l = insertAll-append cmp a b (insert cmp x l)
 
 module _ (c : Constraint) where
-  met-append : (a b : List Disjunct) → metList c (a ++ b) ≡ metList c a ++ metList c b
-  unfolding metList
-  met-append a b =
-      ap (map (λ D. met D c)) (keep-append (λ D. meets D c) a b)
-      ∙ map-append (λ D. met D c) (keep (λ D. meets D c) a) (keep (λ D. meets D c) b)
-
   pub met-both : (a b l : List Disjunct)
       → insertAll compareDisjuncts (metList c (a ++ b)) l ≡ insertAll compareDisjuncts (metList c b) (insertAll compareDisjuncts (metList c a) l)
   met-both a b l =
-      ap (λ m. insertAll compareDisjuncts m l) (met-append a b) ∙ insertAll-append compareDisjuncts (metList c a) (metList c b) l
+      ap (λ m. insertAll compareDisjuncts m l) (met-append c a b) ∙ insertAll-append compareDisjuncts (metList c a) (metList c b) l
 
   met-length : (l : List Disjunct) → length (metList c l) ≤ length l
   unfolding metList
   met-length l = omega (arith, length-map (keep (λ D. meets D c) l) (λ D. met D c), keep-length (λ D. meets D c) l)
 
-  pub met-none : (l : List Disjunct) → insertAll compareDisjuncts (metList c []) l ≡ l
-  unfolding metList
-  met-none l = refl
-
   pub met-yes : (D : Disjunct) (l : List Disjunct) → meets D c ≡ true → insertAll compareDisjuncts (metList c (D ∷ [])) l ≡ insert compareDisjuncts (met D c) l
-  unfolding metList
-  met-yes D l h = rw h
+  met-yes D l h = ap (λ m. insertAll compareDisjuncts m l) (met-one c D h)
 
   pub met-no : (D : Disjunct) (l : List Disjunct) → meets D c ≡ false → insertAll compareDisjuncts (metList c (D ∷ [])) l ≡ l
-  unfolding metList
-  met-no D l h = rw h
+  met-no D l h = ap (λ m. insertAll compareDisjuncts m l) (met-none c D h)
 
   -- the start alone, and the start before other disjuncts
   pub met-start : metSet c (withStart true []) ≡ insertAll compareDisjuncts (metList c (freeDisjunct 4 ∷ [])) []
@@ -83,7 +49,7 @@ module _ (c : Constraint) where
   met-started : (begins : Bool) (l : List Disjunct) → insertAll compareDisjuncts (metList c l) (metSet c (withStart begins [])) ≡ metSet c (withStart begins l)
   unfolding metSet withStart
   met-started true l = sym (met-both (freeDisjunct 4 ∷ []) l [])
-  met-started false l = ap (insertAll compareDisjuncts (metList c l)) (met-none [])
+  met-started false l = ap (insertAll compareDisjuncts (metList c l)) met-no-start
 
   -- a set with room for so many that grew from the start's part is that of all
   pub grown-started : (begins : Bool) (l b : List Disjunct) (g : Grown Disjunct) → b ≡ metSet c (withStart begins [])
@@ -99,11 +65,7 @@ pub met-ascending : (c : Constraint) (l : List Disjunct) {b : List Disjunct} →
 unfolding metSet
 met-ascending c l e = ap (ascending compareDisjuncts) e ∙ setOf-ascending disjunct-order (metList c l)
 
-keep-none : {A : Type 0} (l : List A) → keep (λ x. false) l ≡ []
-keep-none [] = refl
-keep-none (x ∷ l) = keep-none l
-
 -- nothing meets a false constraint
-pub met-never : (l : List Disjunct) → metSet never l ≡ []
-unfolding metSet metList
-met-never l = rw (keep-none l)
+pub none-met : (l : List Disjunct) → metSet never l ≡ []
+unfolding metSet
+none-met l = ap (λ m. insertAll compareDisjuncts m []) (met-never l)

@@ -1,38 +1,28 @@
 -- A step set that grows by one source at a time: the sources that are left from the i-th held disjunct on, and what holds of
 -- the set in lent words before the i-th. For the loop over what is held.
 use mathlib.Core.Path.{_≡_, refl, sym, ap, _∙_}
-use mathlib.Core.Bool.{Bool, true, false, cond}
-use mathlib.Core.List.{List, [], _∷_, _++_}
-use Prim.Native.Nat.{ℕ, zero, suc, _+_, _≤_, _<_}
+use mathlib.Core.Bool.{true, false, cond}
+use mathlib.Core.List.{List, [], _∷_}
+use Prim.Native.Nat.{ℕ, _+_, _≤_, _<_}
 use native.Mathlib.Numerals.{add-one}
 use native.Mathlib.Omega.{arith}
-use lib.ListN.{length, take, drop, getD, length-take, drop-of-length-le}
+use lib.ListN.{length, take, drop, getD, length-take}
 use lib.Seq.{getD-take, length-take-le}
 use Rattle.laws.specs.Bits.{bit}
 use Rattle.laws.specs.Order.{ascending}
 use Rattle.laws.specs.Sets.{insertAll, Grown, within}
 use Rattle.laws.proofs.Bits.{bit-zero}
+use Rattle.laws.proofs.Lists.{taken-none}
 use Rattle.laws.proofs.Sets.{insertAll-ascending, length-insertAll}
+use Rattle.laws.proofs.Turns.{counted-few, counted-over, few-counted, over-counted}
 use Rattle.meaning.specs.Events.{Constraint}
 use Rattle.meaning.specs.Labels.{Disjunct, compareDisjuncts}
 use Rattle.meaning.proofs.Orders.{disjunct-order}
 use Rattle.work.specs.Bounded.{pick, metList}
+use Rattle.work.proofs.Picks.{pick-next}
 use Rattle.sets.specs.Sets.{disjunctsIn, grownIn}
 use Rattle.sets.proofs.Sets.{in-length, in-grown, in-full}
-use Rattle.step.proofs.Meetings.{within-few, within-many, within-grown, within-full, met-both, met-none}
-
--- from i on, one pair and then the others; beyond the end of the first list nothing passes
-pick-next : {A B : Type 0} (f : A → Bool) (k : List A) (l : List B) (i : ℕ) (d : A) (e : B) → f d ≡ false → i < length l
-    → pick f (drop i k) (drop i l) ≡ cond (f (getD k i d)) (getD l i e ∷ []) [] ++ pick f (drop (suc i) k) (drop (suc i) l)
-pick-next f k [] i d e h g = absurd (omega arith)
-pick-next f [] (y ∷ l) zero d e h g = rw h
-pick-next f [] (y ∷ l) (suc i) d e h g = rw h
-pick-next f (x ∷ k) (y ∷ l) zero d e h g = go (f x)
-  where
-    go : (b : Bool) → cond b (y ∷ pick f k l) (pick f k l) ≡ cond b (y ∷ []) [] ++ pick f k l
-    go true = refl
-    go false = refl
-pick-next f (x ∷ k) (y ∷ l) (suc i) d e h g = pick-next f k l i d e h (omega arith)
+use Rattle.step.proofs.Meetings.{met-both}
 
 -- the sources among the first n, from the i-th held disjunct on
 unfoldable pub left : (q : ℕ) (ms : List ℕ) (l : List Disjunct) (n i : ℕ) → List Disjunct
@@ -45,16 +35,16 @@ module _ (q : ℕ) (ms : List ℕ) (l : List Disjunct) (n : ℕ) where
 
   left-none : (i : ℕ) → n ≤ i → left q ms l n i ≡ []
   unfolding left
-  left-none i h = rw (drop-of-length-le (take n ms) {i = i} (omega (arith, length-take n ms)))
+  left-none i h = rw (taken-none ms n i h)
 
   module _ (i : ℕ) (long : n ≤ length l) (h : i < n) where
-    left-next : left q ms l n i ≡ cond (bit q (getD ms i 0)) (getD l i [] ∷ []) [] ++ left q ms l n (i + 1)
+    left-next : let r = left q ms l n (i + 1) in left q ms l n i ≡ cond (bit q (getD ms i 0)) (getD l i [] ∷ r) r
     unfolding left
     left-next =
-        pick-next (λ m. bit q m) (take n ms) (take n l) i 0 [] (bit-zero q) (omega (arith, length-take-le n l long))
+        pick-next (λ m. bit q m) (bit-zero q) i (take n ms) (take n l) [] (omega (arith, length-take-le n l long))
         ∙ rw (getD-take n ms i 0 h, getD-take n l i [] h, add-one i)
 
-    left-taken : bit q (getD ms i 0) ≡ true → left q ms l n i ≡ (getD l i [] ∷ []) ++ left q ms l n (i + 1)
+    left-taken : bit q (getD ms i 0) ≡ true → left q ms l n i ≡ getD l i [] ∷ left q ms l n (i + 1)
     left-taken e = left-next ∙ rw e
 
     left-passed : bit q (getD ms i 0) ≡ false → left q ms l n i ≡ left q ms l n (i + 1)
@@ -80,10 +70,10 @@ module _ (c : Constraint) (q : ℕ) (ms held : List ℕ) (n : ℕ) (base : List 
 
   module _ (g : Growing c q ms held n base out m i) where
     pub growing-all : n ≤ i → grownIn m out ≡ whole
+    unfolding metList
     growing-all h =
-        in-grown m out (g .room) ∙ sym (within-few 128 now-held (omega (arith, g .room, length-take m (disjunctsIn out))))
-        ∙ ap (within 128) (sym (met-none c now-held) ∙ ap (λ s. insertAll compareDisjuncts (metList c s) now-held) (sym (left-none q ms (disjunctsIn held) n i h)))
-        ∙ g .same
+        in-grown m out (g .room) ∙ sym (counted-few 128 (length now-held) now-held (omega (arith, g .room, length-take m (disjunctsIn out))))
+        ∙ ap (λ s. within 128 (insertAll compareDisjuncts (metList c s) now-held)) (sym (left-none q ms (disjunctsIn held) n i h)) ∙ g .same
 
     module _ (short : n ≤ 128) (h : i < n) where
       long : n ≤ length (disjunctsIn held)
@@ -110,12 +100,12 @@ module _ (c : Constraint) (q : ℕ) (ms held : List ℕ) (n : ℕ) (base : List 
         turn =
             ap (within 128) (sym (met-both c (D ∷ []) after now-held)
             ∙ ap (λ s. insertAll compareDisjuncts (metList c s) now-held)
-            (ap (λ E. (E ∷ []) ++ after) d ∙ sym (left-taken q ms (disjunctsIn held) n i long h e)))
+            (ap (λ E. E ∷ after) d ∙ sym (left-taken q ms (disjunctsIn held) n i long h e)))
             ∙ g .same
 
         pub growing-more : m′ ≤ 128 → Growing c q ms held n base out′ m′ (i + 1)
         growing-more k =
-            let t : take m′ (disjunctsIn out′) ≡ grew = within-grown 128 grew (take m′ (disjunctsIn out′)) (sym a ∙ in-grown m′ out′ k) in
+            let t : take m′ (disjunctsIn out′) ≡ grew = sym (few-counted 128 (length grew) grew _ (sym a ∙ in-grown m′ out′ k) .1) in
             record {
               few = omega arith;
               room = k;
@@ -125,8 +115,8 @@ module _ (c : Constraint) (q : ℕ) (ms held : List ℕ) (n : ℕ) (base : List 
 
         pub growing-full : (w : List ℕ) → 128 < m′ → grownIn 129 w ≡ whole
         growing-full w k =
-            let over : 128 < length grew = within-full 128 grew (sym a ∙ in-full m′ out′ k) in
+            let over : 128 < length grew = over-counted 128 (length grew) grew (sym a ∙ in-full m′ out′ k) in
+            let l = insertAll compareDisjuncts (metList c after) grew in
             in-full 129 w (omega arith)
-            ∙ sym (within-many 128 (insertAll compareDisjuncts (metList c after) grew)
-            (omega (arith, over, length-insertAll disjunct-order (metList c after) grew)))
+            ∙ sym (counted-over 128 (length l) l (omega (arith, over, length-insertAll disjunct-order (metList c after) grew)))
             ∙ turn

@@ -26,12 +26,11 @@ use Rattle.meaning.proofs.Listed as Plain
 use Rattle.meaning.proofs.NoRoom.{no-room}
 use Rattle.meaning.proofs.Orders.{valuation-order}
 use Rattle.laws.specs.Lists.{all}
-use Rattle.laws.proofs.Lists.{all-append, and-true-split}
+use Rattle.laws.proofs.Lists.{all-append, and-true-split, either, or-false-split}
 use Rattle.laws.proofs.Sets.{same-members}
 use Rattle.form.specs.Text.{Bytes, Declarations, tracematchOf}
 use Rattle.form.specs.Form.{Form}
 use Rattle.form.proofs.Accepted.{form-proper}
-use Rattle.form.proofs.Faults.{either}
 use Rattle.record.specs.Records.{isRecord, eventIn}
 use Rattle.book.specs.Books.{reading, viewBook}
 use Rattle.book.specs.declared.Book.{Book}
@@ -182,11 +181,6 @@ refused-stays b s bytes buffer place t h =
     let (e, f) = taken-refused b s l h in
     rw e (refl, refl, refl, refl, f)
 
--- a disjunction that is false
-neither : (a b : Bool) → (a || b) ≡ false → (a ≡ false) × (b ≡ false)
-neither true b h = absurd (true≢false h)
-neither false b h = (refl, h)
-
 -- Lists of checks, and the number of the first that fails.
 module _ (x : ℕ) where
   -- some check of the list has the number x, or acceptance has
@@ -197,7 +191,7 @@ module _ (x : ℕ) where
   never-gives : (cs : List Check) → gives cs ≡ false → numberOf (firstOf cs) ≡ x → ⊥
   never-gives [] h e = eqb-false 0 x h e
   never-gives (c ∷ cs) h e =
-      let (p, q) = neither (eqb (numberOf (c .answer)) x) (gives cs) h in
+      let (p, q) = or-false-split (eqb (numberOf (c .answer)) x) (gives cs) h in
       either (λ a. numberOf a ≡ x → ⊥) (c .fails) (λ _. eqb-false _ x p) (λ _. never-gives cs q) e
 
   -- the number is behind the first check
@@ -281,7 +275,7 @@ sound-parts : (b : Book) (s : State) (bytes : Bytes) → unsound b s bytes ≡ f
     → (soundBook (viewBook b) ≡ true) × (soundHeld (viewBook b) (heldFirst (b .variables) s) ≡ true)
 unfolding unsound bookSound stateSound soundState viewState
 sound-parts b s bytes h =
-    let (p, q) = and-true-split (bookSound b) (stateSound b s) (not-false _ (neither _ _ h .0)) in
+    let (p, q) = and-true-split (bookSound b) (stateSound b s) (not-false _ (or-false-split _ _ h .0)) in
     (and-true-split (bookCounts b) _ p .1, and-true-split (leb (s .number) eventLimit) _ (and-true-split (stateCounts (b .variables) s) _ q .1) .1)
 
 -- "an event has at most 16 × 129 rows", for any book and state

@@ -11,7 +11,7 @@ use lib.Dec.{eqb, ltb}
 use lib.ListN.{length, take, getD}
 use Rattle.laws.specs.Lists.{all, gather}
 use Rattle.laws.specs.Parts.{splice}
-use Rattle.laws.proofs.Lists.{and-true-split}
+use Rattle.laws.proofs.Lists.{and-true-split, either}
 use Rattle.pattern.specs.Regex.{Regex}
 use Rattle.meaning.specs.Events.{Event, Valuation, wellFormed}
 use Rattle.meaning.specs.Meaning.{Tracematch}
@@ -23,7 +23,6 @@ use Rattle.meaning.specs.Sound.{eventLimit}
 use Rattle.meaning.specs.Runs as Runs
 use Rattle.form.specs.Text.{Bytes, isBytes, Declarations, tracematchOf}
 use Rattle.form.specs.Form.{Form}
-use Rattle.form.proofs.Faults.{either}
 use Rattle.record.specs.Records.{isRecord, eventIn}
 use Rattle.record.proofs.Records.{record-event}
 use Rattle.book.specs.declared.Book.{Book}

@@ -42,7 +42,8 @@ events t u p = record {
   same = λ i h. event-at u (p .to i) ∙ ap eventIn (p .same i (rw length-map at h)) ∙ sym (event-at t i);
 }
 
-in-order : (tm : Tracematch) (t u : List Bytes) (p : Partners t u) → InOrder tm t u p → Ordered noEvent (λ e. e) tm (map eventIn t) (map eventIn u) (events t u p)
+in-order : (tm : Tracematch) (t u : List Bytes) (p : Partners t u) → InOrder tm t u p
+    → Ordered noEvent (λ e. e) tm (map eventIn t) (map eventIn u) (events t u p)
 in-order tm t u p o = record { keeps = λ i j h k d. o .keeps i j h (rw length-map at k) (rw (event-at t i, event-at t j) at d) }
 
 -- a row has a value for each variable

@@ -1,7 +1,7 @@
--- The theorems of the three demands, over the definitions that the contracts cite: Listed, Answered, Crossed; all together for an accepted text: Demands. On the way to them:
--- States and Bridge (structs against plain states), Course (runs against plain runs), Tails (bytes of rows). Witness has two runs to
--- which Crossed applies. For the proofs of the functions: what the checks say (Checks), what the lent words say (Steps), how a call ends
--- (Ends).
+-- The theorems of the three demands, over the definitions that the contracts cite: Listed, Answered, Crossed; all together for an
+-- accepted text: Demands. On the way to them: States and Bridge (structs against plain states), Course (runs against plain runs), Tails
+-- (bytes of rows). Witness has two runs to which Crossed applies. For the proofs of the functions: what the checks say (Checks), what
+-- the lent words say (Steps), how a call ends (Ends).
 pub mod Checks
 pub mod Steps
 pub mod Ends

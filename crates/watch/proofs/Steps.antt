@@ -2,19 +2,20 @@
 -- the follow masks, the constraints, the free rows, room, rows and the state after the event. For `moved`, `judged` and `step`.
 use mathlib.Core.Path.{_≡_, refl, sym, ap, ap₂, subst, _∙_}
 use mathlib.Core.Bool.{Bool, true, false, cond, _&&_, and-eq-true-iff}
-use mathlib.Core.List.{List, [], _∷_, map, map-map, List·Memᴰ, List·Memᴰ·head, List·Memᴰ·tail, List·Memᴰ·not-nil, List·Memᴰ·cases-cons, Memᴰ·append-left}
+use mathlib.Core.List.{List, [], _∷_, map, map-map, List·Memᴰ, List·Memᴰ·head, List·Memᴰ·tail, List·Memᴰ·not-nil, List·Memᴰ·cases-cons}
 use mathlib.Core.Logic.{⊎-elim}
 use Prim.Native.Nat.{ℕ, suc, _+_, _-_, _≤_, _<_}
 use native.Mathlib.Numerals.{add-one}
 use native.Mathlib.Omega.{arith}
 use borrow.Author.Tests.{leb-true, le-leb}
 use lib.Dec.{leb}
-use lib.ListN.{length, take, drop, getD, replicate, length-map, length-take, length-append, take-append-drop}
+use lib.ListN.{length, take, getD, replicate, length-map, length-take, length-append}
 use lib.Seq.{length-take-le, getD-take}
 use Rattle.laws.specs.Lists.{all}
 use Rattle.laws.specs.Parts.{pad}
 use Rattle.laws.specs.Sets.{full, grown, within}
 use Rattle.laws.proofs.Lists.{all-at, all-of, mem-map, mem-index}
+pub use Rattle.laws.proofs.Lists.{mem-take}
 use Rattle.laws.proofs.Maps.{map-agree}
 use Rattle.meaning.specs.Events as Events
 use Rattle.meaning.specs.Book.{followers}
@@ -25,6 +26,7 @@ use Rattle.meaning.specs.Sound.{soundPiece, soundHeld, eventLimit}
 use Rattle.meaning.proofs.Few.{few-rows}
 use Rattle.work.specs.Wide.{wide, wideHeld, wideValuation, wideBook}
 use Rattle.work.specs.Bounded.{heldOf, rowLimit, freeRows}
+use Rattle.work.proofs.Picks.{held-positions}
 use Rattle.work.proofs.Wide.{wide-sound, wide-held, wide-room, wide-rows, wide-free}
 use Rattle.table.specs.Tables.{viewSymbol}
 use Rattle.constraint.specs.declared.Constraint.{Constraint}
@@ -48,11 +50,6 @@ use Rattle.watch.specs.Inner.{judgedNumber, Moved}
 use Rattle.watch.proofs.Checks.{BookSound, StateSound, judged-free, judged-many, judged-room, stepNumber, number-judged, decoded-record, decoded-view}
 
 -- the positions of what is held
-held-positions : (ps : List ℕ) (l : List Disjunct) → length ps ≤ length l → map (λ h. h .position) (heldOf ps l) ≡ ps
-held-positions [] l h = refl
-held-positions (p ∷ ps) [] h = absurd (omega arith)
-held-positions (p ∷ ps) (D ∷ l) h = ap (λ r. p ∷ r) (held-positions ps l (omega arith))
-
 positions-in : (n : ℕ) (at w : List ℕ) → n ≤ 128 → map (λ h. h .position) (heldIn n at w) ≡ take n at
 unfolding heldIn
 positions-in n at w h =
@@ -66,9 +63,6 @@ held-disjunct [] l h m = absurd (List·Memᴰ·not-nil m)
 held-disjunct (p ∷ ps) [] h m = absurd (List·Memᴰ·not-nil m)
 held-disjunct (p ∷ ps) (D ∷ l) h m =
     ⊎-elim (λ e. List·Memᴰ·head (ap (λ x. x .disjunct) e)) (λ k. List·Memᴰ·tail (held-disjunct ps l h k)) (List·Memᴰ·cases-cons m)
-
-pub mem-take : {A : Type 0} (n : ℕ) {x : A} {l : List A} → List·Memᴰ x (take n l) → List·Memᴰ x l
-mem-take n {x} {l} m = subst (List·Memᴰ x) (take-append-drop n l) (Memᴰ·append-left (drop n l) m)
 
 -- a disjunct that is held in lent words has four entries
 four-in : (n : ℕ) (at w : List ℕ) (h : Held) → List·Memᴰ h (heldIn n at w) → length (h .disjunct) ≡ 4

@@ -12,22 +12,15 @@ use Rattle.laws.proofs.Parts.{pad-length}
 use Rattle.meaning.specs.Events.{Valuation}
 use Rattle.form.specs.Text.{Bytes}
 use Rattle.writer.specs.RowBytes.{wordBytes, rowBytes}
+use Rattle.writer.proofs.RowBytes.{gather-length, word-length}
 
 -- variable count, three zeros, four values
 unfoldable pub tail : ℕ → Valuation → Bytes
 tail v σ = (v ∷ 0 ∷ 0 ∷ 0 ∷ []) ++ gather wordBytes (pad 4 0 σ)
 
-word-length : (x : ℕ) → length (wordBytes x) ≡ 4
-unfolding wordBytes
-word-length x = refl
-
-words-length : (l : List ℕ) → length (gather wordBytes l) ≡ 4 * length l
-words-length [] = refl
-words-length (x ∷ l) = rw (length-append, word-length, words-length l) (omega arith)
-
 tail-length : (v : ℕ) (σ : Valuation) → length σ ≤ 4 → length (tail v σ) ≡ 20
 unfolding tail
-tail-length v σ h = rw (words-length, pad-length 4 0 σ h) refl
+tail-length v σ h = omega (arith, gather-length wordBytes 4 (pad 4 0 σ) (λ x m. word-length x), pad-length 4 0 σ h)
 
 row-split : (n v : ℕ) (σ : Valuation) → rowBytes n v σ ≡ wordBytes n ++ tail v σ
 unfolding rowBytes tail wordBytes

@@ -64,6 +64,11 @@ held-of-length [] (D ∷ l) h = h
 held-of-length (p ∷ ps) [] h = refl
 held-of-length (p ∷ ps) (D ∷ l) h = ap suc (held-of-length ps l (omega arith))
 
+pub held-positions : (ps : List ℕ) (l : List Disjunct) → length ps ≤ length l → map (λ h. h .position) (heldOf ps l) ≡ ps
+held-positions [] l h = refl
+held-positions (p ∷ ps) [] h = absurd (omega arith)
+held-positions (p ∷ ps) (D ∷ l) h = ap (λ r. p ∷ r) (held-positions ps l (omega arith))
+
 -- the disjuncts of what is held
 abbrev disjuncts : List Held → List Disjunct
 disjuncts held = map (λ h. h .disjunct) held

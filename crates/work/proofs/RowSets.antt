@@ -46,20 +46,20 @@ module _ {A : Type 0} (cmp : A → A → Ordering) (cap : ℕ) where
       go false q ih = let z : _≡_ {A = ℕ} 0 1 = cc (grow-full xs, q) in absurd (omega arith)
 
 -- the disjuncts that meet a constraint
-met-append : (c : Constraint) (k l : List Disjunct) → metList c (k ++ l) ≡ metList c k ++ metList c l
+pub met-append : (c : Constraint) (k l : List Disjunct) → metList c (k ++ l) ≡ metList c k ++ metList c l
 unfolding metList
 met-append c k l = ap (map (λ D. met D c)) (keep-append (λ D. meets D c) k l) ∙ map-append (λ D. met D c) (keep (λ D. meets D c) k) _
 
-met-never : (l : List Disjunct) → metList never l ≡ []
+pub met-never : (l : List Disjunct) → metList never l ≡ []
 unfolding metList
 met-never [] = refl
 met-never (D ∷ l) = met-never l
 
-met-one : (c : Constraint) (D : Disjunct) → meets D c ≡ true → metList c (D ∷ []) ≡ met D c ∷ []
+pub met-one : (c : Constraint) (D : Disjunct) → meets D c ≡ true → metList c (D ∷ []) ≡ met D c ∷ []
 unfolding metList
 met-one c D h = rw h
 
-met-none : (c : Constraint) (D : Disjunct) → meets D c ≡ false → metList c (D ∷ []) ≡ []
+pub met-none : (c : Constraint) (D : Disjunct) → meets D c ≡ false → metList c (D ∷ []) ≡ []
 unfolding metList
 met-none c D h = rw h
 

@@ -35,7 +35,7 @@ gather-next g l i d h =
     ap (gather g) (ap (λ k. take k l) (add-one i) ∙ take-suc l i d h) ∙ gather-append g (take i l) (getD l i d ∷ [])
     ∙ ap (λ r. gather g (take i l) ++ r) (append-nil (g (getD l i d)))
 
-word-length : (x : ℕ) → length (wordBytes x) ≡ 4
+pub word-length : (x : ℕ) → length (wordBytes x) ≡ 4
 unfolding wordBytes
 word-length x = refl
 

@@ -1,5 +1,5 @@
 -- `skip::skip_from` meets its contract: what this demand gives into the set, and then what the later ones give; ever fewer are left.
-use mathlib.Core.Path.{_≡_, refl, sym, ap, _∙_}
+use mathlib.Core.Path.{_≡_, sym, ap, _∙_}
 use mathlib.Core.Bool.{true, false}
 use mathlib.Core.List.{List, [], _∷_}
 use Prim.Native.Nat.{ℕ, _+_, _-_, _<_}
@@ -15,10 +15,11 @@ use Rattle.meaning.specs.Room.{heldLimit}
 use Rattle.work.specs.Bounded.{growFew}
 use Rattle.work.proofs.Skips.{few-full}
 use Rattle.constraint.specs.Constraints.{viewDemand, demandsIn}
+use Rattle.constraint.proofs.Views.{emptyDemand, demands-end, demand-below}
 use Rattle.disjunct.specs.Disjuncts.{viewDisjunct}
 use Rattle.sets.specs.Sets.{disjunctsIn, grownIn}
 use Rattle.sets.proofs.Sets.{in-grown, in-full}
-use Rattle.skip.proofs.Demands.{given, given-none, given-one, given-ahead, demands-none, demand-variable}
+use Rattle.skip.proofs.Demands.{given, given-none, given-one, given-ahead}
 use Rattle.skip.proofs.Growth.{step-ascending, step-full}
 use Rattle.skip.proofs.skip_from.Reads as skip-from
 use Rattle.skip.proofs.skip_from.Kinds as kinds
@@ -53,7 +54,7 @@ module _ (n : ℕ) where
     D = viewDisjunct (s .args .d)
 
     abbrev demand : Events.Demand
-    demand = viewDemand (getD (s .args .t2 .demands) (s .args .i) (record { variable = 0; value = 0 }))
+    demand = viewDemand (getD (s .args .t2 .demands) (s .args .i) emptyDemand)
 
     abbrev this : List Disjunct
     this = given D (demand ∷ [])
@@ -70,8 +71,7 @@ module _ (n : ℕ) where
     ahead : s .args .i < s .args .t2 .count
         → growFew later (growFew this (grown held)) ≡ growFew (given D (drop (s .args .i) (demandsIn (s .args .t2)))) (grown held)
     ahead h =
-        sym (given-ahead (s .args .t2) D (s .args .i) (record { variable = 0; value = 0 }) (grown held) refl h
-        (omega (arith, places, s .pre .1 .1 .few)))
+        sym (given-ahead (s .args .t2) D (s .args .i) (grown held) h (omega (arith, places, s .pre .1 .1 .few)))
 
     -- an answer by what the later demands give into k, where this one gives k
     by-later : {g : Grown Disjunct} (k : List Disjunct) → s .args .i < s .args .t2 .count → growFew this (grown held) ≡ grown k
@@ -79,13 +79,13 @@ module _ (n : ℕ) where
     by-later k h e p = p ∙ sym (ap (growFew later) e) ∙ ahead h
 
     variable : s .args .i < s .args .t2 .count → demand .variable < 4
-    variable h = demand-variable (s .args .t2) (s .args .i) (record { variable = 0; value = 0 }) refl h (s .pre .1 .1)
+    variable h = demand-below (s .args .t2) (s .pre .1 .1) places (s .args .i) h
 
   returns : lts.Need-returns (calls n) (at n) skip-from.Post
   returns c =
       let s = c .before in
       in-grown (s .args .m) (s .args .out .now) (s .pre .1 .0)
-      ∙ ap (λ ds. growFew (given (D s) ds) (grown (held s))) (sym (demands-none (s .args .t2) (s .args .i) (c .if1 .taken)))
+      ∙ ap (λ ds. growFew (given (D s) ds) (grown (held s))) (sym (demands-end (s .args .t2) (s .args .i) (c .if1 .taken)))
 
   mul-x : lts.Need-mul-x (calls n) (at n) skip-from.Post
   mul-x c = omega arith
@@ -106,7 +106,8 @@ module _ (n : ℕ) where
   insert-requires c κs = let s = c .before .before .before .before .before .before .before .before .before in (s .pre .1 .0, s .pre .1 .3)
 
   -- the set after the insertion is what this demand makes of it
-  inserted : (c : lts.After-insert (calls n) (at n) skip-from.Post) → let s = c .before .before .before .before .before .before .before .before .before .before in
+  inserted : (c : lts.After-insert (calls n) (at n) skip-from.Post)
+      → let s = c .before .before .before .before .before .before .before .before .before .before in
       grownIn (c .insert .result) (c .insert .last .0) ≡ growFew (this s) (grown (held s))
   inserted c =
       let x = c .before .before .before .before in

@@ -6,11 +6,11 @@ use Prim.Native.Nat.{_+_, _-_, _≤_, _<_}
 use native.Mathlib.Omega.{arith}
 use lib.Dec.{eqb}
 use lib.ListN.{length, take}
+use Rattle.laws.proofs.Lists.{taken-none}
 use Rattle.work.specs.Bounded.{pick}
 use Rattle.disjunct.specs.Disjuncts.{viewDisjunct}
 use Rattle.sets.specs.Sets.{disjunctsIn}
 use Rattle.sets.proofs.Sets.{in-length}
-use Rattle.skip.proofs.Words.{taken-none}
 use Rattle.skip.proofs.Picks.{ahead, ahead-picked, ahead-passed, put-behind}
 use Rattle.skip.proofs.label.Statement.{statement}
 use Rattle.skip.proofs.label.Tie as tie

@@ -8,6 +8,7 @@ use lib.ListN.{take, drop}
 use Rattle.laws.specs.Lists.{gather}
 use Rattle.laws.specs.Order.{ascending}
 use Rattle.laws.specs.Sets.{grown}
+use Rattle.laws.proofs.Lists.{taken-cons, taken-none}
 use Rattle.meaning.specs.Labels.{Disjunct, compareDisjuncts, skipOne}
 use Rattle.meaning.specs.Room.{fewExclusions}
 use Rattle.work.specs.Bounded.{growFew, skipped}
@@ -16,7 +17,6 @@ use Rattle.constraint.specs.Constraints.{viewConstraint}
 use Rattle.disjunct.specs.Disjuncts.{viewDisjunct}
 use Rattle.sets.specs.Sets.{disjunctsIn}
 use Rattle.sets.proofs.Sets.{in-length, few-in, in-grown, in-full}
-use Rattle.skip.proofs.Words.{taken-cons, taken-none}
 use Rattle.skip.proofs.Growth.{step-grown, step-ascending, step-full}
 use Rattle.skip.proofs.skip_by.Statement.{statement}
 use Rattle.skip.proofs.skip_by.Tie as tie

@@ -9,15 +9,16 @@ use native.Mathlib.Omega.{arith}
 use native.Mathlib.Nat.{zero-add}
 use lib.ListN.{length, take, drop, getD}
 use Rattle.laws.specs.Order.{ascending}
+use Rattle.laws.proofs.Maps.{mapped-cons, mapped-none}
 use Rattle.meaning.specs.Events as Events
 use Rattle.meaning.specs.Labels.{Disjunct, compareDisjuncts}
 use Rattle.work.specs.Bounded.{skippedThrough}
 use Rattle.work.proofs.Skips.{through-none, through-full, through-grown, through-never, skipped-sound}
 use Rattle.constraint.specs.Constraints.{viewConstraint, noConstraint}
+use Rattle.constraint.proofs.Views.{never-view}
 use Rattle.sets.specs.Sets.{disjunctsIn}
 use Rattle.sets.proofs.Sets.{in-grown, in-full}
 use Rattle.skip.proofs.Words.{room-in}
-use Rattle.skip.proofs.Constraints.{constraints-cons, constraints-none, view-never}
 use Rattle.skip.proofs.skip_through.Statement.{statement}
 use Rattle.skip.proofs.skip_through.Tie as tie
 
@@ -65,7 +66,8 @@ module _ (t : tie.In-loop Inv-loop μ-loop) where
   ahead =
       let a = t .before .before .args in
       ap (λ cs. skippedThrough cs held)
-      (sym (constraints-cons (a .t4) (a .count) (t .before .loop .symbol) (t .loop-test .taken) (omega (arith, places (t .before .before)))))
+      (sym (mapped-cons viewConstraint (a .t4) (a .count) (t .before .loop .symbol) noConstraint (t .loop-test .taken)
+      (omega (arith, places (t .before .before)))))
       ∙ t .before .loop .inv .3
 
 returns : tie.Need-returns Inv-loop μ-loop
@@ -101,7 +103,7 @@ loop-again c =
     ))
     (λ w.
     let same : take (c .if1 .m) (disjunctsIn (c .if1 .words)) ≡ held t = ap₂ (λ m v. take m (disjunctsIn v)) (w .3) (w .1) in
-    let off = view-never (getD (t .before .before .args .t4) (l .symbol) noConstraint) (w .0 .left) in (
+    let off = never-view (getD (t .before .before .args .t4) (l .symbol) noConstraint) (w .0 .left) in (
       omega arith,
       omega (arith, w .3),
       rw same (l .inv .2),
@@ -114,7 +116,8 @@ returns-2 c =
     let l = c .before .loop in
     let a = c .before .before .args in
     in-grown (l .m) (l .words) (l .inv .1) ∙ sym (through-none (take (l .m) (disjunctsIn (l .words))))
-    ∙ ap (λ cs. skippedThrough cs (take (l .m) (disjunctsIn (l .words)))) (sym (constraints-none (a .t4) (a .count) (l .symbol) (c .loop-test .left))) ∙ l .inv .3
+    ∙ ap (λ cs. skippedThrough cs (take (l .m) (disjunctsIn (l .words))))
+    (sym (mapped-none viewConstraint (a .t4) (a .count) (l .symbol) (c .loop-test .left))) ∙ l .inv .3
 
 pub skip-through-spec : {M : Type 1} → statement M
 skip-through-spec =

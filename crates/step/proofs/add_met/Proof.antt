@@ -2,14 +2,15 @@
 use mathlib.Core.Path.{sym, ap, _∙_}
 use native.Mathlib.Omega.{arith}
 use borrow.Author.Needs.{needs}
-use lib.ListN.{take, length-take}
+use lib.ListN.{length, take, length-take}
 use Rattle.laws.specs.Sets.{insert, within}
+use Rattle.laws.proofs.Turns.{counted-few}
 use Rattle.meaning.specs.Labels.{compareDisjuncts}
 use Rattle.constraint.specs.Constraints.{viewConstraint}
 use Rattle.disjunct.specs.Disjuncts.{viewDisjunct}
 use Rattle.sets.specs.Sets.{disjunctsIn}
 use Rattle.sets.proofs.Sets.{in-grown}
-use Rattle.step.proofs.Meetings.{within-few, met-yes, met-no}
+use Rattle.step.proofs.Meetings.{met-yes, met-no}
 use Rattle.step.proofs.add_met.Statement.{statement}
 use Rattle.step.proofs.add_met.Tie as tie
 
@@ -36,7 +37,7 @@ returns-2 c =
     let m = s .args .m in
     let w = s .args .out .now in
     let l = take m (disjunctsIn w) in
-    in-grown m w (s .pre .0) ∙ sym (within-few 128 l (omega (arith, length-take m (disjunctsIn w), s .pre .0)))
+    in-grown m w (s .pre .0) ∙ sym (counted-few 128 (length l) l (omega (arith, length-take m (disjunctsIn w), s .pre .0)))
     ∙ ap (within 128) (sym (met-no (viewConstraint (s .args .c)) (viewDisjunct (s .args .d)) l (sym (c .before .meet .ensures .0) ∙ c .if1 .left)))
 
 pub add-met-spec : {M : Type 1} → statement M

@@ -6,8 +6,8 @@ use native.Mathlib.Omega.{arith}
 use lib.Dec.{leb}
 use lib.ListN.{length, take, getD, length-set}
 use borrow.Author.Tests.{leb-true}
-use Rattle.laws.proofs.Lists.{and-true-split}
-use Rattle.step.proofs.Fills.{fill-more, all-below}
+use Rattle.laws.proofs.Lists.{and-true-split, all-taken}
+use Rattle.step.proofs.Fills.{fill-more}
 use borrow.Author.Needs.{needs}
 use Rattle.step.proofs.fill_masks.Statement.{statement}
 use Rattle.step.proofs.fill_masks.Tie as tie
@@ -24,7 +24,7 @@ position : (c : tie.In-loop Inv-loop μ-loop)
 position c =
     let s = c .before .before in
     let p = getD (s .args .at .now) (c .before .loop .i) 0 in
-    let b = and-true-split (leb 1 p) (leb p 31) (all-below _ (s .args .n) (s .args .at .now) (c .before .loop .i) 0 (s .pre .2) (omega arith) (omega arith)) in
+    let b = and-true-split (leb 1 p) (leb p 31) (all-taken _ (s .args .n) (s .args .at .now) (c .before .loop .i) 0 (s .pre .2) (omega arith) (omega arith)) in
     (leb-true 1 p (b .0), leb-true p 31 (b .1))
 
 loop-holds : tie.Need-loop-holds Inv-loop μ-loop

@@ -1,23 +1,17 @@
 -- `step::step_set` meets its contract: the start's part, then the others; nothing where the constraint is false.
-use mathlib.Core.Path.{_≡_, sym, ap, _∙_}
-use mathlib.Core.Bool.{false}
+use mathlib.Core.Path.{sym, ap, _∙_}
 use lib.ListN.{take}
 use Rattle.laws.specs.Bits.{bit}
 use Rattle.laws.specs.Sets.{within}
-use Rattle.meaning.specs.Events.{never}
 use Rattle.work.specs.Bounded.{pick, withStart, metSet}
-use Rattle.constraint.specs.declared.Constraint.{Constraint}
 use Rattle.constraint.specs.Constraints.{viewConstraint}
+use Rattle.constraint.proofs.Views.{never-view}
 use Rattle.sets.specs.Sets.{disjunctsIn, grownIn}
 use Rattle.sets.proofs.Sets.{in-grown}
-use Rattle.step.proofs.Meetings.{grown-started, met-ascending, met-never}
+use Rattle.step.proofs.Meetings.{grown-started, met-ascending, none-met}
 use borrow.Author.Needs.{needs}
 use Rattle.step.proofs.step_set.Statement.{statement}
 use Rattle.step.proofs.step_set.Tie as tie
-
-view-never : (c : Constraint) → c .ok ≡ false → viewConstraint c ≡ never
-unfolding viewConstraint
-view-never c h = rw h
 
 add-start-requires : tie.Need-add-start-requires
 add-start-requires c κs = search needs
@@ -41,7 +35,7 @@ returns-2 : tie.Need-returns-2
 returns-2 c =
     let a = c .before .args in
     let l = withStart (a .begins) (pick (λ m. bit (a .q) m) (take (a .n) (a .masks .now)) (take (a .n) (disjunctsIn (a .held .now)))) in
-    in-grown 0 (a .out .now) (search needs) ∙ sym (ap (λ k. within 128 (metSet k l)) (view-never (a .c) (c .if1 .left)) ∙ ap (within 128) (met-never l))
+    in-grown 0 (a .out .now) (search needs) ∙ sym (ap (λ k. within 128 (metSet k l)) (never-view (a .c) (c .if1 .left)) ∙ ap (within 128) (none-met l))
 
 pub step-set-spec : {M : Type 1} → statement M
 step-set-spec = tie.close (tie.spec add-start-requires add-sources-requires returns returns-2)

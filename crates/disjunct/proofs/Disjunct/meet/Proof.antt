@@ -12,10 +12,11 @@ use Rattle.laws.specs.Lists.{all}
 use Rattle.laws.proofs.Lists.{and-true-split}
 use Rattle.meaning.specs.Labels.{admits, meetsAll, metAll, meets, met}
 use Rattle.constraint.specs.Constraints.{viewDemand, demandsIn}
+use Rattle.constraint.proofs.Views.{emptyDemand, demands-view, never-view, demands-next, demands-end}
 use Rattle.disjunct.specs.Disjuncts.{viewDisjunct}
 use Rattle.disjunct.proofs.Disjuncts.{sized}
 use Rattle.disjunct.proofs.Slots.{entry-at}
-use Rattle.disjunct.proofs.Meeting.{demanded, undemanded, zeroDemand, demands-next, demands-end, bound-view, meets-first}
+use Rattle.disjunct.proofs.Meeting.{bound-view, meets-first}
 use Rattle.disjunct.proofs.Disjunct.meet.Statement.{statement}
 use Rattle.disjunct.proofs.Disjunct.meet.Tie as tie
 
@@ -35,7 +36,7 @@ loop-holds c = (omega arith, sized (c .before .args .self) (c .before .good .0) 
 
 -- the demands ahead, by the first of them
 first : (c : tie.In-loop Inv-loop μ-loop) → let y = c .before .before .before .args .t2 in let i = c .before .loop .i in
-    drop i (demandsIn y) ≡ viewDemand (getD (y .demands) i zeroDemand) ∷ drop (i + 1) (demandsIn y)
+    drop i (demandsIn y) ≡ viewDemand (getD (y .demands) i emptyDemand) ∷ drop (i + 1) (demandsIn y)
 first c =
     let s = c .before .before .before in
     let y = s .args .t2 in
@@ -44,7 +45,7 @@ first c =
 
 -- it is of one of four variables, and so are the others
 within : (c : tie.In-loop Inv-loop μ-loop) → let y = c .before .before .before .args .t2 in let i = c .before .loop .i in
-    (getD (y .demands) i zeroDemand .variable < 4) × (all (λ x. ltb (x .variable) 4) (drop (i + 1) (demandsIn y)) ≡ true)
+    (getD (y .demands) i emptyDemand .variable < 4) × (all (λ x. ltb (x .variable) 4) (drop (i + 1) (demandsIn y)) ≡ true)
 within c =
     let h = and-true-split _ _ (ap (all (λ x. ltb (x .variable) 4)) (sym (first c)) ∙ c .before .loop .inv .2) in
     (ltb-true _ _ (h .0), h .1)
@@ -87,7 +88,7 @@ loop-again c =
     let t = c .before .before .before .before .before .before in
     let l = t .before .loop in
     let y = t .before .before .before .args .t2 in
-    let x = getD (y .demands) (l .i) zeroDemand in
+    let x = getD (y .demands) (l .i) emptyDemand in
     let D = viewDisjunct (l .d) in
     let b = bound-view (l .d) x (c .holding .result) (c .holding .ensures) in
     let rest = drop (l .i + 1) (demandsIn y) in
@@ -105,10 +106,10 @@ returns c =
     let l = t .before .loop in
     let s = t .before .before .before in
     let y = s .args .t2 in
-    let x = getD (y .demands) (l .i) zeroDemand in
+    let x = getD (y .demands) (l .i) emptyDemand in
     let h = ap (λ e. admits e (x .value)) (entry-at (l .d) (x .variable)) ∙ sym (c .before .admits .ensures) ∙ c .if2 .left in (
       sym (meets-first (viewDisjunct (l .d)) (first t) h) ∙ l .inv .3
-          ∙ ap (meets (viewDisjunct (s .args .self))) (sym (demanded y (t .before .before .if1 .taken))),
+          ∙ ap (meets (viewDisjunct (s .args .self))) (sym (demands-view y (t .before .before .if1 .taken))),
       λ e. absurd (false≢true e),
       λ _. refl,
     )
@@ -119,7 +120,7 @@ returns-2 c =
     let s = c .before .before .before in
     let y = s .args .t2 in
     let D = viewDisjunct (l .d) in
-    let e = sym (demanded y (c .before .before .if1 .taken)) in
+    let e = sym (demands-view y (c .before .before .if1 .taken)) in
     let n = sym (demands-end y (l .i) (c .loop-test .left)) in (
       ap (meetsAll D) n ∙ l .inv .3 ∙ ap (meets (viewDisjunct (s .args .self))) e,
       λ _. ap (metAll D) n ∙ l .inv .4 ∙ ap (met (viewDisjunct (s .args .self))) e,
@@ -129,7 +130,7 @@ returns-2 c =
 returns-3 : tie.Need-returns-3 Inv-loop μ-loop
 returns-3 c =
     let a = c .before .args in
-    (ap (meets (viewDisjunct (a .self))) (sym (undemanded (a .t2) (c .if1 .left))), λ e. absurd (false≢true e), λ _. refl)
+    (ap (meets (viewDisjunct (a .self))) (sym (never-view (a .t2) (c .if1 .left))), λ e. absurd (false≢true e), λ _. refl)
 
 pub meet-spec : {M : Type 1} → statement M
 meet-spec =
