@@ -1,4 +1,4 @@
-// Amounts by which a number is put out of its range, drawn at random.
+// Amounts by which a number is put out of its range, drawn at random; and one more than a count.
 
 // An amount: often 0 to 2, else middling, large, or near the largest number of 32 or 64 bits.
 pub fn amount(x: u64, k: u64) -> u64 {
@@ -39,4 +39,9 @@ pub fn counter(x: u64, k: u64) -> u64 {
         2 => amount(x, k % 65536 + 1),
         _ => draws::below(x, k % 65536 + 2, 3),
     }
+}
+
+// No count here comes near the bound: it is there so that the sum needs no proof.
+pub fn up(x: u32) -> u32 {
+    x % 1000000000 + 1
 }

@@ -1,10 +1,10 @@
--- `trials::longer` is safe and ends: the code is below 1000 and the base below 16 where they are multiplied.
+-- `trials::keeping::longer` is safe and ends: the code is below 1000 and the base below 16 where they are multiplied.
 use Prim.Native.Nat.{ℕ, _*_, _%_, _≤_}
 use native.Mathlib.Nat.{mul-le-mul-right}
 use native.Mathlib.Omega.{arith}
 use borrow.Author.Needs.{needs}
-use Rattle.trials.proofs.longer.Statement.{statement}
-use Rattle.trials.proofs.longer.Tie as tie
+use Rattle.trials.proofs.keeping.longer.Statement.{statement}
+use Rattle.trials.proofs.keeping.longer.Tie as tie
 
 product-within : (x y : ℕ) → x % 1000 * (y % 16) ≤ 1000 * (y % 16)
 product-within x y = mul-le-mul-right (y % 16) (omega arith)

@@ -1,11 +1,11 @@
--- `trials::first_run` is safe and ends: the turns are counted.
+-- `trials::running::first_run` is safe and ends: the turns are counted.
 use mathlib.Core.Path.{_≡_}
 use Prim.Native.Nat.{_-_}
 use lib.ListN.{length}
 use native.Mathlib.Omega.{arith}
 use borrow.Author.Needs.{needs}
-use Rattle.trials.proofs.first_run.Statement.{statement}
-use Rattle.trials.proofs.first_run.Tie as tie
+use Rattle.trials.proofs.running.first_run.Statement.{statement}
+use Rattle.trials.proofs.running.first_run.Tie as tie
 
 abbrev Inv-loop : tie.InvT-loop
 Inv-loop seed book f trace₀ lists₀ state₀ tally₀ s₀ n₀ i₀ trace lists state tally s n i = (length trace ≡ length trace₀) × (length lists ≡ length lists₀)

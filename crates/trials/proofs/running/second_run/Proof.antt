@@ -1,11 +1,11 @@
--- `trials::second_run` is safe and ends: the turns are counted.
+-- `trials::running::second_run` is safe and ends: the turns are counted.
 use mathlib.Core.Path.{_≡_}
 use Prim.Native.Nat.{_-_}
 use lib.ListN.{length}
 use native.Mathlib.Omega.{arith}
 use borrow.Author.Needs.{needs}
-use Rattle.trials.proofs.second_run.Statement.{statement}
-use Rattle.trials.proofs.second_run.Tie as tie
+use Rattle.trials.proofs.running.second_run.Statement.{statement}
+use Rattle.trials.proofs.running.second_run.Tie as tie
 
 abbrev Inv-loop : tie.InvT-loop
 Inv-loop book f trace order n lists₀ state₀ tally₀ done₀ i₀ lists state tally done i = length lists ≡ length lists₀

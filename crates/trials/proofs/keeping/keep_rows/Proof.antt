@@ -1,10 +1,10 @@
--- `trials::keep_rows` is safe and ends: the turns are counted.
+-- `trials::keeping::keep_rows` is safe and ends: the turns are counted.
 use mathlib.Core.Path.{_≡_}
 use Prim.Native.Nat.{_-_}
 use lib.ListN.{length}
 use borrow.Author.Needs.{needs}
-use Rattle.trials.proofs.keep_rows.Statement.{statement}
-use Rattle.trials.proofs.keep_rows.Tie as tie
+use Rattle.trials.proofs.keeping.keep_rows.Statement.{statement}
+use Rattle.trials.proofs.keeping.keep_rows.Tie as tie
 
 abbrev Inv-loop : tie.InvT-loop
 Inv-loop rows place count number f lists₀ e at i₀ lists i = length lists ≡ length lists₀

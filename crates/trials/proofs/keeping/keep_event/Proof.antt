@@ -1,10 +1,10 @@
--- `trials::keep_event` is safe and ends: the turns are counted.
+-- `trials::keeping::keep_event` is safe and ends: the turns are counted.
 use mathlib.Core.Path.{_≡_}
 use Prim.Native.Nat.{_-_}
 use lib.ListN.{length}
 use borrow.Author.Needs.{needs}
-use Rattle.trials.proofs.keep_event.Statement.{statement}
-use Rattle.trials.proofs.keep_event.Tie as tie
+use Rattle.trials.proofs.keeping.keep_event.Statement.{statement}
+use Rattle.trials.proofs.keeping.keep_event.Tie as tie
 
 abbrev Inv-loop : tie.InvT-loop
 Inv-loop «record» trace₀ e at i₀ trace i = length trace ≡ length trace₀

@@ -1,8 +1,8 @@
--- `trials::code_of` is safe and ends: the turns are counted.
+-- `trials::keeping::code_of` is safe and ends: the turns are counted.
 use Prim.Native.Nat.{_-_, _≤_}
 use borrow.Author.Needs.{needs}
-use Rattle.trials.proofs.code_of.Statement.{statement}
-use Rattle.trials.proofs.code_of.Tie as tie
+use Rattle.trials.proofs.keeping.code_of.Statement.{statement}
+use Rattle.trials.proofs.keeping.code_of.Tie as tie
 
 abbrev Inv-loop : tie.InvT-loop
 Inv-loop rows at number f code₀ v₀ code v = v ≤ 4

@@ -1,10 +1,10 @@
--- `trials::call` is safe and ends: the part that is lent is inside the record.
+-- `trials::running::call` is safe and ends: the part that is lent is inside the record.
 use mathlib.Core.Path.{sym}
 use native.Mathlib.Omega.{arith}
 use lib.Seq.{length-take-le}
 use borrow.Author.Needs.{needs}
-use Rattle.trials.proofs.call.Statement.{statement}
-use Rattle.trials.proofs.call.Tie as tie
+use Rattle.trials.proofs.running.call.Statement.{statement}
+use Rattle.trials.proofs.running.call.Tie as tie
 
 slice-aggregate-event : tie.Need-slice-aggregate-event
 slice-aggregate-event c = sym (length-take-le _ _ (omega arith))

@@ -1,8 +1,8 @@
--- `trials::same` is safe and ends: the turns are counted.
+-- `trials::keeping::same` is safe and ends: the turns are counted.
 use Prim.Native.Nat.{_-_, _≤_}
 use borrow.Author.Needs.{needs}
-use Rattle.trials.proofs.same.Statement.{statement}
-use Rattle.trials.proofs.same.Tie as tie
+use Rattle.trials.proofs.keeping.same.Statement.{statement}
+use Rattle.trials.proofs.keeping.same.Tie as tie
 
 abbrev Inv-loop : tie.InvT-loop
 Inv-loop a x b y n i₀ i = i ≤ 100

@@ -1,10 +1,10 @@
--- `trials::record_of` is safe and ends: the turns are counted.
+-- `trials::keeping::record_of` is safe and ends: the turns are counted.
 use mathlib.Core.Path.{_≡_}
 use Prim.Native.Nat.{_-_}
 use lib.ListN.{length}
 use borrow.Author.Needs.{needs}
-use Rattle.trials.proofs.record_of.Statement.{statement}
-use Rattle.trials.proofs.record_of.Tie as tie
+use Rattle.trials.proofs.keeping.record_of.Statement.{statement}
+use Rattle.trials.proofs.keeping.record_of.Tie as tie
 
 abbrev Inv-loop : tie.InvT-loop
 Inv-loop trace e out₀ i₀ out i = length out ≡ length out₀
