@@ -24,7 +24,7 @@ use Rattle.record.specs.Records.{wordAt, argumentsIn, isRecord, eventIn}
 use Rattle.slot.specs.Slots.{viewSlot, slotOf}
 use Rattle.disjunct.specs.Disjuncts.{viewDisjunct, disjunctOf}
 use Rattle.book.specs.Answers.{answerOf}
-use Rattle.book.specs.Books.{reading, readingFor, bookFor, emptyBook, viewBook}
+use Rattle.book.specs.Books.{readingFor, bookFor, emptyBook, viewBook}
 use Rattle.state.specs.States.{stateOf, heldFirst, viewState}
 use Rattle.sound.specs.Soundness.{symbolCounts, bookCounts, bookSound, slotCounts, stateCounts, stateSound}
 use Rattle.writer.specs.RowBytes.{wordBytes, rowBytes}

@@ -1,6 +1,6 @@
 -- The readers alternation, sequence and atom over what the code holds: r for a reading a, of which it knows r ≡ parsedOf vars k a.
 -- Each is one step over what its callees read (Fuel of the crate form); here is what each return and each call needs of that step.
-use mathlib.Core.Path.{_≡_, refl, sym, ap, _∙_}
+use mathlib.Core.Path.{_≡_, sym, ap, _∙_}
 use mathlib.Core.Bool.{Bool, true, false, cond}
 use Prim.Native.Nat.{ℕ, suc, _+_, _-_, _≤_, _<_}
 use native.Mathlib.Nat.{suc-add}

@@ -15,7 +15,7 @@ use Rattle.laws.specs.Lists.{any, all}
 use Rattle.laws.proofs.Lists.{and-true-split, or-true-split, any-found, any-of, all-at, all-of, mem-keep, mem-getD, mem-index}
 use Rattle.laws.proofs.Lists.{keep-reverse, keep-length, mem-numbers, getD-numbers}
 use Rattle.pattern.specs.Regex.{In}
-use Rattle.pattern.specs.Positions.{size, symbols, beginning, ending, following, symbolAt, Has, Reach, start, next as onto}
+use Rattle.pattern.specs.Positions.{size, symbols, ending, following, symbolAt, Has, Reach, start, next as onto}
 use Rattle.pattern.proofs.Masks.{Among, beginning-among, ending-among, following-among, symbolAt-list, symbols-length}
 use Rattle.pattern.proofs.Spell.{positions-left}
 use Rattle.meaning.specs.Events.{Place, ignored, names, Symbol, Event, Demand, never, demands, Valuation}

@@ -12,7 +12,7 @@ use Rattle.laws.proofs.Lists.{and-true-split, all-append, all-map, all-at, all-
 use Rattle.meaning.specs.Events.{Symbol}
 use Rattle.meaning.specs.Book.{soundPlace, soundSymbol}
 use Rattle.form.specs.Text.{Bytes, Span, SymbolLine, Declarations, isName, symbolOf, variableSpans, symbolSpans, symLine}
-use Rattle.form.specs.Lines.{Table, linesOf, bytesAt, declaredTable}
+use Rattle.form.specs.Lines.{linesOf, bytesAt, declaredTable}
 use Rattle.form.proofs.Header.{Header, header-read, header-found, header-names}
 use Rattle.table.specs.Tables.{tableOf, viewTable, inside, Ready}
 use Rattle.table.proofs.Codes.{Fits, view-table}

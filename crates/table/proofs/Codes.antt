@@ -18,7 +18,6 @@ use Rattle.meaning.specs.Book.{soundPlace}
 use Rattle.form.specs.Text.{Bytes, Span}
 use Rattle.form.specs.Lines as Lines
 use Rattle.table.specs.declared.Symbol.{Symbol}
-use Rattle.table.specs.declared.Name.{Name}
 use Rattle.table.specs.declared.Table.{Table}
 use Rattle.table.specs.Tables.{placeOf, symbolOf, nameOf, tableOf, viewPlace, viewSymbol, noName, spanOf, viewTable, inside, Ready}
 

@@ -1,2 +1,3 @@
--- Laws of the tally.
+-- Laws of the tally, and words for the walks over references to it.
 pub mod Tallies
+pub mod Walks

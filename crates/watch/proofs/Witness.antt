@@ -2,18 +2,16 @@
 -- and one that takes them in another order and refuses a record of 19 bytes on the way. For the buyer.
 use mathlib.Core.Path.{_≡_, refl}
 use mathlib.Core.Bool.{true, or-false}
-use mathlib.Core.List.{List, [], _∷_, map}
+use mathlib.Core.List.{List, [], _∷_}
 use Prim.Native.Nat.{ℕ, zero, suc, _<_}
 use native.Mathlib.Omega.{arith}
 use borrow.Author.Tests.{eqb-true}
 use lib.Dec.{eqb}
-use lib.ListN.{getD, replicate}
+use lib.ListN.{getD}
 use Rattle.laws.specs.Bits.{bit, join, meet, single}
 use Rattle.laws.specs.Parts.{pad}
 use Rattle.laws.proofs.Lists.{and-true-split}
-use Rattle.pattern.specs.Regex.{Regex, lit, cat, plus}
-use Rattle.meaning.specs.Events.{Valuation, names, matches, constraintOf, holds, concerns}
-use Rattle.meaning.specs.Meaning.{Tracematch}
+use Rattle.meaning.specs.Events.{Valuation, matches, constraintOf, holds, concerns}
 use Rattle.meaning.specs.Book.{Proper, isProper, soundBook, soundSymbol}
 use Rattle.meaning.specs.Labels.{compareDisjuncts, skipBy, sources, stepSet, skipSet, newLabel, newHeld}
 use Rattle.meaning.specs.Room.{setRoom, room}
@@ -21,7 +19,7 @@ use Rattle.meaning.specs.Rows.{rows, leavesFree}
 use Rattle.meaning.specs.Runs.{Dependent}
 use Rattle.meaning.specs.Sound.{soundPiece, soundHeld, soundState}
 use Rattle.meaning.proofs.ProperTest.{proper-test}
-use Rattle.form.specs.Text.{Bytes, ascii, Declarations, tracematchOf, decimal, header, text as textOf}
+use Rattle.form.specs.Text.{Bytes, ascii, decimal, header, text as textOf}
 use Rattle.form.specs.Phrase.{symbol, plain, plussed, last, then, only}
 use Rattle.form.specs.Form.{Form}
 use Rattle.form.specs.Scan.{spacesEnd, wordEnd, nameEnd, nextWord, nameFault, kindOf}
@@ -32,12 +30,11 @@ use Rattle.table.specs.Tables.{symbolOf, tableOf, viewSymbol}
 use Rattle.record.specs.Records.{wordAt, argumentsIn, isRecord, eventIn}
 use Rattle.slot.specs.Slots.{viewSlot, slotOf}
 use Rattle.disjunct.specs.Disjuncts.{viewDisjunct, disjunctOf}
-use Rattle.book.specs.Books.{reading, readingFor, bookFor, viewBook}
+use Rattle.book.specs.Books.{readingFor, bookFor, viewBook}
 use Rattle.state.specs.States.{stateOf, heldFirst, viewState}
 use Rattle.sound.specs.Soundness.{symbolCounts, bookCounts, bookSound, slotCounts, stateCounts, stateSound}
-use Rattle.watch.specs.Answers.{numberOf}
 use Rattle.watch.specs.Calls.{freshState, rowsBy, stateBy, leavesFreeBy, roomBy, unsound, outOfForm, tooMany, noRoom, noSpace, answerTo, taken}
-use Rattle.watch.specs.Runs.{Call, event, Made, make, runOf, acceptedIn, recordsOf, Partners, InOrder, Crossed}
+use Rattle.watch.specs.Runs.{make, recordsOf, Partners, InOrder, Crossed}
 use Rattle.watch.specs.Witness.{text, declared, pattern, tm, load, drop, xs, ys, runX, runY, answers, counts}
 use Rattle.watch.proofs.Crossed.{crossed}
 

@@ -1,5 +1,5 @@
 -- `damage::lending::fill` is safe and ends: the index is counted up to the length.
-use Prim.Native.Nat.{_≤_, _-_}
+use Prim.Native.Nat.{_-_}
 use mathlib.Core.Path.{_≡_}
 use lib.ListN.{length}
 use borrow.Author.Needs.{needs}

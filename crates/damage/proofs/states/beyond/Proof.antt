@@ -1,5 +1,5 @@
 -- `damage::states::beyond` is safe and ends: the index is counted up to 6.
-use Prim.Native.Nat.{_≤_, _-_}
+use Prim.Native.Nat.{_-_}
 use mathlib.Core.Path.{_≡_}
 use lib.ListN.{length}
 use borrow.Author.Needs.{needs}
