@@ -13,7 +13,7 @@ use Rattle.laws.specs.Bits.{bit}
 use Rattle.laws.specs.Lists.{all, numbers}
 use Rattle.laws.specs.Order.{ascending}
 use Rattle.laws.specs.Sets.{Grown, full, grown}
-use Rattle.laws.proofs.Lists.{all-at, mem-getD}
+use Rattle.laws.proofs.Lists.{all-taken}
 use Rattle.meaning.specs.Events as Events
 use Rattle.meaning.specs.Meaning.{noSymbol}
 use Rattle.meaning.specs.Book as Plain
@@ -60,10 +60,8 @@ module _ (b : Book) (i : ℕ) (h : i < b .positions) (long : length (b .occurren
   number-in : Plain.soundBook (viewBook b) ≡ true → number < length (viewBook b .symbols)
   unfolding viewBook
   number-in s =
-      let t = length-take-le (b .positions) (b .occurrences) (omega arith) in
-      let m = mem-getD (take (b .positions) (b .occurrences)) i 0 (omega arith) in
-      let r = all-at (λ a. ltb a (length (viewBook b .symbols))) (symbols-below (viewBook b) s) m in
-      ltb-true number _ (rw (getD-take (b .positions) (b .occurrences) i 0 h) at r)
+      let f : ℕ → Bool = λ a. ltb a (length (viewBook b .symbols)) in
+      ltb-true number _ (all-taken f (b .positions) (b .occurrences) i 0 (symbols-below (viewBook b) s) (omega arith) h)
 
   pub number-below : Plain.soundBook (viewBook b) ≡ true → number < b .symbols
   unfolding viewBook

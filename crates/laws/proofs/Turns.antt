@@ -3,16 +3,17 @@
 -- keep disjuncts and valuations so, and for advance.
 use mathlib.Core.Path.{_≡_, refl, sym, ap, ap₂, _∙_}
 use mathlib.Core.Bool.{Bool, true, false, cond}
-use mathlib.Core.List.{List, [], _∷_, _++_}
+use mathlib.Core.List.{List, _∷_, _++_}
 use Prim.Native.Nat.{ℕ, suc, _+_, _≤_, _<_, Ordering, Ordering·lt, Ordering·eq, Ordering·gt}
 use native.Mathlib.Numerals.{add-one}
 use native.Mathlib.Omega.{arith}
 use lib.Dec.{leb}
-use lib.ListN.{length, take, drop, getD, set, length-append, length-take, length-drop, length-set, drop-of-length-le}
+use lib.ListN.{length, take, drop, getD, set, length-append, length-take, length-drop, length-set}
 use lib.Seq.{drop-cons, getD-set-same, getD-take, length-take-le, take-take, take-set-le, take-set-lt, drop-set-lt, set-split}
 use borrow.Author.Tests.{leb-true, leb-false, le-leb, lt-leb}
 use Rattle.laws.specs.Order.{IsOrder, ascending}
 use Rattle.laws.specs.Sets.{insert, Grown, full, grown, within}
+use Rattle.laws.proofs.Lists.{taken-none}
 use Rattle.laws.proofs.Places.{place-none, place-passed, place-found, place-behind}
 
 -- A count with what it counts, where no more than `cap` are allowed. With n the length of l it is `within cap l`.
@@ -93,9 +94,7 @@ pub record Moved {A : Type 0} (n : ℕ) (l : List A) (i : ℕ) (m : List A) : Ty
 module _ {A : Type 0} where
   pub moved-none : (n : ℕ) (l : List A) → Moved n l n l
   moved-none n l =
-      let none : (k : ℕ) → length (take k l) ≤ k = λ k. omega (arith, length-take k l) in
-      let gone : (k : ℕ) → drop k (take k l) ≡ [] = λ k. drop-of-length-le (take k l) {i = k} (none k) in
-      record { upto = omega arith; before = refl; behind = gone (suc n) ∙ sym (gone n) }
+      record { upto = omega arith; before = refl; behind = taken-none l (suc n) (suc n) (omega arith) ∙ sym (taken-none l n n (omega arith)) }
 
   -- the element j moved up
   moved-up : (n : ℕ) (l : List A) (j : ℕ) (m : List A) (d : A) → n < length l → length m ≡ length l → Moved n l (suc j) m

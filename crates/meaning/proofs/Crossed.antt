@@ -54,7 +54,8 @@ paired-all f t u pairs h = all-of f u λ e m.
     let (j, k, x) = mem-index noEvent m in
     sym (ap f (turn pairs .same j k ∙ x)) ∙ all-at f h (mem-getD t (pairs .back j) noEvent (pairs .back-inside j k))
 
-turn-ordered : (tm : Tracematch) (t u : List Event) (pairs : Pairing noEvent t u) → Ordered noEvent (λ e. e) tm t u pairs → Ordered noEvent (λ e. e) tm u t (turn pairs)
+turn-ordered : (tm : Tracematch) (t u : List Event) (pairs : Pairing noEvent t u) → Ordered noEvent (λ e. e) tm t u pairs
+    → Ordered noEvent (λ e. e) tm u t (turn pairs)
 turn-ordered tm t u pairs ord = record { keeps = λ i j h k d. lt-of-not-le (crossing i j h k d) }
   where
     -- were they not in the order of i and j, their partners, which are i and j, would not be either
@@ -150,8 +151,8 @@ row tm t u pairs ord i h σ r =
     last n = omega arith
 
 -- partners are rows for the same valuations
-pub partner-rows : (tm : Tracematch) (t u : List Event) (pairs : Pairing noEvent t u) → Ordered noEvent (λ e. e) tm t u pairs → (i : ℕ) → i < length t → (σ : Valuation)
-    → Row tm t (suc i) σ ↔ Row tm u (suc (pairs .to i)) σ
+pub partner-rows : (tm : Tracematch) (t u : List Event) (pairs : Pairing noEvent t u) → Ordered noEvent (λ e. e) tm t u pairs
+    → (i : ℕ) → i < length t → (σ : Valuation) → Row tm t (suc i) σ ↔ Row tm u (suc (pairs .to i)) σ
 partner-rows tm t u pairs ord i h σ = (
   row tm t u pairs ord i h σ,
   λ r. rw (pairs .back-to i h) at (row tm u t (turn pairs) (turn-ordered tm t u pairs ord) (pairs .to i) (pairs .to-inside i h) σ r),

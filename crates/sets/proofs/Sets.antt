@@ -12,10 +12,8 @@ use Rattle.laws.proofs.Turns.{counted, counted-few, counted-over, few-counted, 
 use Rattle.meaning.specs.Labels.{Disjunct, exclusions}
 use Rattle.meaning.specs.Room.{fewExclusions}
 use Rattle.sets.specs.Sets.{entryAt, disjunctsIn, grownIn}
-use Rattle.sets.proofs.Words.{length-disjuncts, disjuncts-at, entry-few}
-
-pub in-length : (w : List ℕ) → length (disjunctsIn w) ≡ 128
-in-length w = length-disjuncts w
+use Rattle.sets.proofs.Words.{disjuncts-at, entry-few}
+pub use Rattle.sets.proofs.Words.{in-length}
 
 pub few-in : (w : List ℕ) (i : ℕ) → i < 128 → fewExclusions (getD (disjunctsIn w) i []) ≡ true
 few-in w i h =

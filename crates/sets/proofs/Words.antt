@@ -75,9 +75,9 @@ entries-at : (w : List ℕ) (j : ℕ) (d : Entry) → j < 512 → getD (entriesI
 unfolding entriesIn
 entries-at w j d h = getD-of (λ j. entryAt w (j * 7)) 512 j d h
 
-pub length-disjuncts : (w : List ℕ) → length (disjunctsIn w) ≡ 128
+pub in-length : (w : List ℕ) → length (disjunctsIn w) ≡ 128
 unfolding disjunctsIn
-length-disjuncts w = length-of (λ i. map (λ v. entryAt w (i * 28 + v * 7)) (numbers 0 4)) 128
+in-length w = length-of (λ i. map (λ v. entryAt w (i * 28 + v * 7)) (numbers 0 4)) 128
 
 disjuncts-of : (w : List ℕ) (i : ℕ) → i < 128 → getD (disjunctsIn w) i [] ≡ map (λ v. entryAt w (i * 28 + v * 7)) (numbers 0 4)
 unfolding disjunctsIn
@@ -156,8 +156,8 @@ store-free w j n a b c d e f h l m =
 pub disjuncts-put : (w v : List ℕ) (i : ℕ) (a b c e : Entry) → i < 128 → entriesIn v ≡ sets (entriesIn w) (i * 4) (a ∷ b ∷ c ∷ e ∷ [])
     → disjunctsIn v ≡ set (disjunctsIn w) i (a ∷ b ∷ c ∷ e ∷ [])
 disjuncts-put w v i a b c e h p =
-    ext-getD [] (disjunctsIn v) (set (disjunctsIn w) i D) (length-disjuncts v ∙ sym (length-set (disjunctsIn w) i D ∙ length-disjuncts w))
-    (λ n m. go n (omega (arith, length-disjuncts v)) (ℕ-discrete n i))
+    ext-getD [] (disjunctsIn v) (set (disjunctsIn w) i D) (in-length v ∙ sym (length-set (disjunctsIn w) i D ∙ in-length w))
+    (λ n m. go n (omega (arith, in-length v)) (ℕ-discrete n i))
   where
     D : Disjunct
     D = a ∷ b ∷ c ∷ e ∷ []
@@ -167,7 +167,7 @@ disjuncts-put w v i a b c e h p =
         rw q (four-entries v i h
         ∙ maps-agree _ (λ k. getD D k (free [])) 0 4 (λ k x y. ap (λ r. getD r (i * 4 + k) (free [])) p
         ∙ getD-sets-same (entriesIn w) (i * 4) D k (free []) (omega (arith, length-entries w)) (omega arith))
-        ∙ sym (getD-set-same (disjunctsIn w) i D [] (omega (arith, length-disjuncts w))))
+        ∙ sym (getD-set-same (disjunctsIn w) i D [] (omega (arith, in-length w))))
     go n m (no q) =
         four-entries v n m
         ∙ maps-agree _ _ 0 4 (λ k x y. ap (λ r. getD r (n * 4 + k) (free [])) p

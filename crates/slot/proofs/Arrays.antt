@@ -5,9 +5,10 @@ use mathlib.Core.List.{List, [], _∷_, _++_, append-assoc, append-nil}
 use Prim.Native.Nat.{ℕ, suc, _+_, _-_, _≤_, _<_}
 use native.Mathlib.Numerals.{add-one}
 use native.Mathlib.Omega.{arith}
-use lib.ListN.{length, take, drop, getD, set, replicate, drop-of-length-le}
+use lib.ListN.{length, take, drop, getD, set, replicate}
 use lib.Seq.{drop-append-le, take-suc, take-suc-set, take-all, length-take-le}
 use Rattle.laws.specs.Parts.{pad}
+use Rattle.laws.proofs.Lists.{taken-none}
 
 module _ (xs : List ℕ) (k x : ℕ) where
   -- the first numbers up to i with x put at k
@@ -15,7 +16,7 @@ module _ (xs : List ℕ) (k x : ℕ) where
   gap i = take k xs ++ x ∷ drop k (take i xs)
 
   pub gap-none : k < length xs → take (suc k) (set xs k x) ≡ gap k
-  gap-none h = rw (drop-of-length-le (take k xs) {i = k} (omega (arith, length-take-le k xs (omega arith)))) (take-suc-set xs k x h)
+  gap-none h = rw (taken-none xs k k (omega arith)) (take-suc-set xs k x h)
 
   gap-next : (i : ℕ) → k ≤ i → i < length xs → drop k (take (suc i) xs) ≡ drop k (take i xs) ++ (getD xs i 0 ∷ [])
   gap-next i h l = ap (drop k) (take-suc xs i 0 l) ∙ drop-append-le k (take i xs) _ (omega (arith, length-take-le i xs (omega arith)))
