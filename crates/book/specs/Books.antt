@@ -13,6 +13,8 @@ use Rattle.meaning.specs.Book as Plain
 use Rattle.form.specs.Text.{Bytes, Span}
 use Rattle.form.specs.Lines as Lines
 use Rattle.form.specs.Reading.{Outcome, readingOf}
+use Rattle.piece.specs.declared.Piece.{Piece}
+use Rattle.table.specs.declared.Table.{Table}
 use Rattle.table.specs.Tables.{tableOf, viewSymbol}
 use Rattle.book.specs.Answers.{answerOf}
 use Rattle.book.specs.declared.Book.{Book}
@@ -33,6 +35,22 @@ emptyBook =
       ends = 0;
       follows = replicate 31 0;
       empty = false;
+    }
+
+-- the book of a table and a pattern's piece, as the code holds them
+abbrev pub bookWith : Table → Piece → Book
+bookWith t x =
+    record {
+      variables = t .variables;
+      symbols = t .count;
+      names = t .names;
+      table = t .symbols;
+      positions = x .size;
+      occurrences = x .symbols;
+      begins = x .begins;
+      ends = x .ends;
+      follows = x .follows;
+      empty = x .empty;
     }
 
 -- the book of an accepted text

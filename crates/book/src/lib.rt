@@ -5,7 +5,7 @@ use table::Symbol;
 use table::Table;
 ghost use mathlib.Core.Path.{_≡_};
 ghost use Rattle.book.specs.Answers.{answerOf, numberOf, placeOf};
-ghost use Rattle.book.specs.Books.{emptyBook};
+ghost use Rattle.book.specs.Books.{emptyBook, bookWith};
 
 // Counts, the declaring places of names, the symbol table, and the pattern as positions: index i of `occurrences` and `follows` is
 // position i + 1; sets of positions are kept one bit to a position.
@@ -45,7 +45,7 @@ pub struct Reading {
 
 // The book of a table and a pattern.
 pub fn book_of(t: Table, x: Piece) -> Book
-    ensures { λ r. ⌜ r ≡ record { variables = t .variables; symbols = t .count; names = t .names; table = t .symbols; positions = x .size; occurrences = x .symbols; begins = x .begins; ends = x .ends; follows = x .follows; empty = x .empty } ⌝ }
+    ensures { λ r. ⌜ r ≡ bookWith t x ⌝ }
 {
     let names = t.names;
     let table = t.symbols;
