@@ -3,13 +3,14 @@
 use mathlib.Core.Path.{_≡_}
 use mathlib.Core.Bool.{true}
 use mathlib.Core.List.{List, [], _∷_, _++_}
-use mathlib.Core.Logic.{_↔_}
+use mathlib.Core.Logic.{_↔_, _⊎_}
 use Prim.Native.Nat.{ℕ, suc, _+_, _≤_, _<_}
 use lib.ListN.{length}
 use Rattle.form.specs.Text.{Bytes, space, lf, varsWord, symWord, matchWord, Span}
 use Rattle.form.specs.Scan.{at, isWordByte, wordEnd, spacesEnd, kindOf}
 use Rattle.form.specs.Lines.{spanOf, indexOf, declareFault, argumentFault}
-use Rattle.fault.specs.Places.{Ends, Word, wordAt, PatternLine}
+use Rattle.fault.specs.Places.{Ends, wordAt, PatternLine}
+use Rattle.fault.specs.Fault.{VariableNamed, SymbolNamed}
 use Rattle.fault.proofs.Sites.{Clean}
 
 -- one space at p, and behind it a word
@@ -64,7 +65,7 @@ pub record Matched (s : Bytes) (e : ℕ) (vs ss : List Span) : Type 0 where
   pub match : wordAt s (p + 1) ≡ matchWord
   pub end : e ≡ wordEnd s (p + 1)
 
--- what is known at the word `match`, which ends at e: its line, no fault before its end, and which names are symbols'
+-- what is known at the word `match`, which ends at e: its line, no fault before its end, and which names are symbols' and variables'
 pub record Ready (s : Bytes) (symbols : List Span) (e : ℕ) : Type 0 where
   pub k : ℕ
   pub p : ℕ
@@ -72,5 +73,5 @@ pub record Ready (s : Bytes) (symbols : List Span) (e : ℕ) : Type 0 where
   pub end : e ≡ p + 5
   pub clean : Clean s e
   pub later : (k ≡ 1) → ⊥
-  pub known : (w : Bytes) → (indexOf s symbols w < length symbols)
-      ↔ ((j : ℕ) × (r : ℕ) × (1 ≤ j) × (j < k) × Word s j 1 r × (wordAt s r ≡ w))
+  pub known : (w : Bytes) → (indexOf s symbols w < length symbols) ↔ SymbolNamed s k w
+  pub variable : (w : Bytes) → VariableNamed s w ⊎ (VariableNamed s w → ⊥)

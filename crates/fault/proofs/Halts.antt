@@ -3,20 +3,22 @@
 use mathlib.Core.Path.{_≡_, refl, sym, ap, _∙_}
 use mathlib.Core.Bool.{Bool, true, false, true≢false, false≢true}
 use mathlib.Core.List.{List, [], _++_, append-nil}
-use mathlib.Core.Logic.{_⊎_, inl, inr, ⊎-elim, _↔_}
+use mathlib.Core.Logic.{_⊎_, inl, inr, ⊎-elim, _↔_, dite}
 use Prim.Native.Nat.{ℕ, suc, _+_, _≤_, _<_}
 use native.Mathlib.Nat.{eq-or-lt-of-le, le-of-suc-le-suc}
 use native.Mathlib.Omega.{arith}
+use native.Mathlib.Decide.{decLt}
 use borrow.Author.Tests.{eqb-true}
 use lib.Dec.{eqb}
 use lib.ListN.{length}
 use Rattle.form.specs.Text.{Bytes, isBytes, space, lf, varsWord, symWord, matchWord, Span}
 use Rattle.form.specs.Form.{sameWord}
 use Rattle.form.specs.Scan.{at, isWordByte, wordEnd}
+use Rattle.form.specs.Lines.{indexOf}
 use Rattle.form.proofs.Scans.{same-word}
 use Rattle.form.proofs.TokenScan.{inside-of}
 use Rattle.fault.specs.Places.{spotAt, Word, wordAt, Header, PatternLine}
-use Rattle.fault.specs.Fault.{WordFault, Declares, IsArgument, Fault, Least}
+use Rattle.fault.specs.Fault.{WordFault, Declares, IsArgument, VariableNamed, SymbolNamed, Fault, Least}
 use Rattle.fault.proofs.Spots.{spot-zero, spot-step, spot-later, word-end, word-bytes, word-spot, word-same, word-before}
 use Rattle.fault.proofs.Sites.{Clean, least-of, fault-number, match-end, word-fault, match-fault}
 use Rattle.fault.proofs.Come.{Halt, Matched, Ready}
@@ -33,6 +35,10 @@ by-byte {A} b f g h = by (eqb b space) (eqb b lf) refl refl
     by true u x y = f (eqb-true b space x)
     by false true x y = g (eqb-true b lf y)
     by false false x y = h (rw (x, y))
+
+-- what an order of numbers decides
+decided : {A : Type 0} (m n : ℕ) → (m < n) ↔ A → A ⊎ (A → ⊥)
+decided m n x = dite (decLt m n) (λ h. inl (x .0 h)) λ h. inr λ a. h (x .1 a)
 
 module _ (s : Bytes) where
   -- no number is smaller than 2
@@ -124,14 +130,16 @@ module _ (s : Bytes) where
 
   -- an argument likewise
   argument-least : {k i r n : ℕ} (xs : List Span) → Word s k i r → Header s k → Clean s r → IsArgument k i
-      → ((Among s xs (wordAt s r) → ⊥) → NoVariable s (wordAt s r)) → Arguing s xs r n → (n ≡ 0 → ⊥) → Least s r n
-  argument-least xs v h c d y (Arguing.ignored e) z = absurd (z refl)
-  argument-least xs v h c d y (Arguing.variable a b e) z = absurd (z refl)
-  argument-least {r = r} xs v h c d y (Arguing.unnamed a b) z = two r c (Fault.word v h (WordFault.noArgument d a b))
-  argument-least xs v h c d y (Arguing.long a b) z =
+      → ((Among s xs (wordAt s r) → ⊥) → NoVariable s (wordAt s r))
+      → SymbolNamed s (suc k) (wordAt s r) ⊎ (SymbolNamed s (suc k) (wordAt s r) → ⊥) → Arguing s xs r n → (n ≡ 0 → ⊥) → Least s r n
+  argument-least xs v h c d y g (Arguing.ignored e) z = absurd (z refl)
+  argument-least xs v h c d y g (Arguing.variable a b e) z = absurd (z refl)
+  argument-least {r = r} xs v h c d y g (Arguing.unnamed a b) z = two r c (Fault.word v h (WordFault.noArgument d a b))
+  argument-least xs v h c d y g (Arguing.long a b) z =
       wrong v h c (WordFault.longArgument d a b) λ m f. ⊎-elim (λ e. omega arith) (λ e. omega (arith, e .1)) (argument-wrong d (inr a) f .1)
-  argument-least xs v h c d y (Arguing.unknown a b e) z =
-      wrong v h c (WordFault.unknownArgument d a (y e))
+  argument-least {r = r} xs v h c d y g (Arguing.unknown a b e) z =
+      let no : VariableNamed s (wordAt s r) → ⊥ = λ (i, q, u, t, w). y e i q u t w in
+      wrong v h c (⊎-elim (λ z. WordFault.symbolArgument d a no z) (λ z. WordFault.undeclaredArgument d a no z) g)
       λ m f. ⊎-elim (λ e. absurd (omega arith)) (λ e. omega (arith, e .1)) (argument-wrong d (inr a) f .1)
 
   module _ {p k i : ℕ} {vs ss : List Span} (f : Facts s p k i vs ss) where
@@ -148,21 +156,23 @@ module _ (s : Bytes) where
           same = e;
         }))
 
-    -- the symbols are those of the lines up to line k, with its name
-    abbrev SymbolName : Bytes → Type 0
-    SymbolName w = (j : ℕ) × (r : ℕ) × (1 ≤ j) × (j < suc k) × Word s j 1 r × (wordAt s r ≡ w)
+    variable-named : 1 ≤ k → (w : Bytes) → VariableNamed s w ⊎ (VariableNamed s w → ⊥)
+    variable-named a w = dite (decLt (indexOf s vs w) (length vs))
+        (λ h. let x = f .variables w .0 h in
+        inl (x .number, x .place, rw (x .is .0) at (x .word), inl (refl, x .is .1, x .is .2), x .same))
+        λ h. inr λ (m, q, u, d, e). no-variable a w h m q u d e
 
-    symbols-before : 3 ≤ i → (w : Bytes) → Among s ss w ↔ SymbolName w
+    symbols-before : 3 ≤ i → (w : Bytes) → Among s ss w ↔ SymbolNamed s (suc k) w
     symbols-before h w = (λ a. from (f .symbols w .0 a), λ z. f .symbols w .1 (to z))
       where
-        from : Stood s IsSymbol p w → SymbolName w
+        from : Stood s IsSymbol p w → SymbolNamed s (suc k) w
         from z =
             let v = z .word in
             let b = line-later (z .place) p (omega (arith, z .before)) (f .inside) in
             let l : z .line < suc k = omega (arith, b, ap (λ y. y .line) (v .spot), on s f) in
             (z .line, z .place, z .is .0, l, rw (z .is .1) at v, z .same)
 
-        to : SymbolName w → Stood s IsSymbol p w
+        to : SymbolNamed s (suc k) w → Stood s IsSymbol p w
         to z = record {
           line = z .0;
           number = 1;
@@ -256,7 +266,8 @@ module _ (s : Bytes) (bytes : isBytes s ≡ true) where
   halt-least q n (Halt.badArgument p k i m vs ss c a b d g e z r) =
       let f = come-facts s c in
       let v = gap-word s f g in
-      rw r (argument-least s vs v (f .header) (gap-passed s f g) (a, b, d) (no-variable s f a _) (rw e at (arguing v vs)) z)
+      rw r (argument-least s vs v (f .header) (gap-passed s f g) (a, b, d) (no-variable s f a _)
+      (decided _ _ (symbols-before s f b (wordAt s (p + 1)))) (rw e at (arguing v vs)) z)
   halt-least q n (Halt.fifthArgument p k vs ss c a g e) =
       let f = come-facts s c in
       let x : IsExcess k 7 = inr (a, refl) in
@@ -285,4 +296,5 @@ module _ (s : Bytes) (bytes : isBytes s ≡ true) where
         clean = rw (m .end) (match-clean s l x (line-clean s f (m .ended) λ _. m .words));
         later = x;
         known = symbols-before s f (m .words);
+        variable = variable-named s f (m .lines .0);
       }

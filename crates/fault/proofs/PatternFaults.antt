@@ -2,7 +2,7 @@
 use mathlib.Core.Path.{_≡_, refl, sym, ap, subst, _∙_}
 use mathlib.Core.Bool.{Bool, true, false, cond, true≢false}
 use mathlib.Core.List.{List, [], _∷_, _++_}
-use mathlib.Core.Logic.{inl, dite}
+use mathlib.Core.Logic.{inl, ⊎-elim, dite}
 use Prim.Native.Nat.{ℕ, _+_, _≤_, _<_}
 use native.Mathlib.Omega.{arith}
 use native.Mathlib.Decide.{decLt, ℕ-discrete}
@@ -18,7 +18,7 @@ use Rattle.form.proofs.Scans as Scans
 use Rattle.form.proofs.TokenScan.{inside-of, here-space}
 use Rattle.fault.specs.Places.{TokenAt, before, nameAt, tokenAt, Begins}
 use Rattle.fault.specs.Fault
-use Rattle.fault.specs.Fault.{TokenFault, Fault, Least, NoFault}
+use Rattle.fault.specs.Fault.{SymbolNamed, TokenFault, Fault, Least, NoFault}
 use Rattle.fault.proofs.Stands.{stuck, on, lessOpen, signed, stand, stands, begins-stands, pattern-stands}
 use Rattle.fault.proofs.Sites.{Clean, least-of, fault-number, fault-inside}
 use Rattle.fault.proofs.Come.{Ready}
@@ -66,21 +66,24 @@ module _ (s : Bytes) (bytes : isBytes s ≡ true) (symbols : List Span) (e : ℕ
       from-3 m (Fault.longToken y f) = omega arith
       from-3 m (Fault.thirtySecond y f) = omega arith
       from-3 m (Fault.seventeenthOpen y f) = omega arith
-      from-3 m (Fault.unknownSymbol y f) = omega arith
+      from-3 m (Fault.undeclaredName y f g) = omega arith
+      from-3 m (Fault.variableName y f g) = omega arith
       from-3 m (Fault.misplaced y f) = omega arith
 
       from-5 : isLower (at s q) ≡ true → length (nameAt s q) ≤ 12 → n < 31 → (m : ℕ) → Wrong m → 5 ≤ m
       from-5 l h i m (Fault.longToken y f) = absurd (omega arith)
       from-5 l h i m (Fault.thirtySecond y f) = absurd (omega (arith, x .names))
       from-5 l h i m (Fault.seventeenthOpen y f) = absurd (true≢false (sym l ∙ ap isLower y))
-      from-5 l h i m (Fault.unknownSymbol y f) = omega arith
+      from-5 l h i m (Fault.undeclaredName y f g) = omega arith
+      from-5 l h i m (Fault.variableName y f g) = omega arith
       from-5 l h i m (Fault.misplaced y f) = omega arith
 
       from-6 : isLower (at s q) ≡ false → (at s q ≡ opening → ⊥) → (m : ℕ) → Wrong m → 6 ≤ m
       from-6 l h m (Fault.longToken y f) = absurd (true≢false (sym y ∙ l))
       from-6 l h m (Fault.thirtySecond y f) = absurd (true≢false (sym y ∙ l))
       from-6 l h m (Fault.seventeenthOpen y f) = absurd (h y)
-      from-6 l h m (Fault.unknownSymbol y f) = absurd (true≢false (sym y ∙ l))
+      from-6 l h m (Fault.undeclaredName y f g) = absurd (true≢false (sym y ∙ l))
+      from-6 l h m (Fault.variableName y f g) = absurd (true≢false (sym y ∙ l))
       from-6 l h m (Fault.misplaced y f) = omega arith
 
       -- a name
@@ -155,8 +158,9 @@ module _ (s : Bytes) (bytes : isBytes s ≡ true) (symbols : List Span) (e : ℕ
     stop-least p o d n m x (Walk.unknown l h i g) =
         let y = here-space s p in
         let q = spacesEnd s p in
+        let no : SymbolNamed s (ready .k) (nameAt s q) → ⊥ = λ z. omega (arith, ready .known (nameAt s q) .1 z) in
         name-least _ o d n x y l 5
-        (Fault.unknownSymbol l λ j r a b v f. omega (arith, ready .known (nameAt s q) .1 (j, r, a, b, v, f)))
+        (⊎-elim (λ g. Fault.variableName l no g) (λ g. Fault.undeclaredName l no g) (ready .variable (nameAt s q)))
         (from-5 _ o d n x y l (omega (arith, name-length s q (x .inside))) i)
     stop-least p o d n m x (Walk.deep b h) =
         let y = here-space s p in

@@ -14,8 +14,8 @@ use Rattle.form.proofs.TokenScan.{inside-of}
 use Rattle.fault.specs.Places.{On, Ends, spotAt, Word, wordAt, Header, PatternLine}
 use Rattle.fault.specs.Fault.{WordFault, TokenFault, WordsMissing, Fault, Least}
 use Rattle.fault.specs.Fault.{notVars, notSym, seventeenth, noName, longName, already, noKind, noArgument, longArgument}
-use Rattle.fault.specs.Fault.{unknownArgument, fifthVariable, fifthArgument}
-use Rattle.fault.specs.Fault.{longToken, thirtySecond, seventeenthOpen, unknownSymbol, misplaced}
+use Rattle.fault.specs.Fault.{undeclaredArgument, symbolArgument, fifthVariable, fifthArgument}
+use Rattle.fault.specs.Fault.{longToken, thirtySecond, seventeenthOpen, undeclaredName, variableName, misplaced}
 use Rattle.fault.specs.Fault.{spaceFirst, spaceTwice, spaceLast, word, missingWord, missingSym, missingSpace, token, missingToken}
 use Rattle.fault.specs.Fault.{missingLF, after}
 use Rattle.fault.proofs.Spots.{spot-step, word-end, word-spot, word-same}
@@ -35,7 +35,8 @@ word-number (already _ _ _ _ _) = omega arith
 word-number (noKind _ _ _) = omega arith
 word-number (noArgument _ _ _) = omega arith
 word-number (longArgument _ _ _) = omega arith
-word-number (unknownArgument _ _ _) = omega arith
+word-number (undeclaredArgument _ _ _ _) = omega arith
+word-number (symbolArgument _ _ _ _) = omega arith
 word-number (fifthVariable _ _) = omega arith
 word-number (fifthArgument _ _) = omega arith
 
@@ -43,7 +44,8 @@ token-number : {s : Bytes} {k p q n : ℕ} → TokenFault s k p q n → 2 ≤ n
 token-number (longToken _ _) = omega arith
 token-number (thirtySecond _ _) = omega arith
 token-number (seventeenthOpen _ _) = omega arith
-token-number (unknownSymbol _ _) = omega arith
+token-number (undeclaredName _ _ _) = omega arith
+token-number (variableName _ _ _) = omega arith
 token-number (misplaced _ _) = omega arith
 
 -- a byte of a word is no space and ends no line

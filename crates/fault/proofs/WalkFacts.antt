@@ -162,7 +162,8 @@ module _ (s : Bytes) (symbols : List Span) (e : ℕ) (ready : Ready s symbols e)
       right c (Fault.longToken y f) = omega (arith, name-length s q (x .inside))
       right c (Fault.thirtySecond y f) = omega (arith, x .names)
       right c (Fault.seventeenthOpen y f) = true≢false (sym l ∙ ap isLower y)
-      right c (Fault.unknownSymbol y f) = let (j, r, u, v, y, g) = ready .known (nameAt s q) .0 i in f j r u v y g
+      right c (Fault.undeclaredName y f g) = f (ready .known (nameAt s q) .0 i)
+      right c (Fault.variableName y f g) = f (ready .known (nameAt s q) .0 i)
       right c (Fault.misplaced y f) =
           f (begins-on q o d n x (name (nameAt s q)) o true refl (ap (λ c. cond c (name (nameAt s q)) (sign (at s q))) l))
 
@@ -193,7 +194,8 @@ module _ (s : Bytes) (symbols : List Span) (e : ℕ) (ready : Ready s symbols e)
       right m (Fault.longToken y f) = lower y
       right m (Fault.thirtySecond y f) = lower y
       right m (Fault.seventeenthOpen y f) = omega (arith, g .few (sym e ∙ y), x .opened)
-      right m (Fault.unknownSymbol y f) = lower y
+      right m (Fault.undeclaredName y f g) = lower y
+      right m (Fault.variableName y f g) = lower y
       right m (Fault.misplaced y f) = f (begins-on q o d n x (sign c) o' d' (g .fits) here)
 
       first : (r m : ℕ) → r ≡ q → TokenFault s k w r m → ⊥

@@ -53,7 +53,8 @@ module _ {s : Bytes} {k i p : ℕ} where
   first-wrong z v y (WordFault.noKind a b c) = absurd (omega arith)
   first-wrong z v y (WordFault.noArgument a b c) = absurd (omega arith)
   first-wrong z v y (WordFault.longArgument a b c) = absurd (omega arith)
-  first-wrong z v y (WordFault.unknownArgument a b c) = absurd (omega arith)
+  first-wrong z v y (WordFault.undeclaredArgument a b c g) = absurd (omega arith)
+  first-wrong z v y (WordFault.symbolArgument a b c g) = absurd (omega arith)
   first-wrong z v y (WordFault.fifthVariable a b) = absurd (omega arith)
   first-wrong z v y (WordFault.fifthArgument a b) = absurd (omega arith)
 
@@ -69,7 +70,8 @@ module _ {s : Bytes} {k i p : ℕ} where
   name-wrong d f (WordFault.noKind a b c) = absurd (omega (arith, declares-numbers d .2 a))
   name-wrong d f (WordFault.noArgument a b c) = absurd (omega (arith, declares-numbers d .2 (a .0)))
   name-wrong d f (WordFault.longArgument a b c) = absurd (omega (arith, declares-numbers d .2 (a .0)))
-  name-wrong d f (WordFault.unknownArgument a b c) = absurd (omega (arith, declares-numbers d .2 (a .0)))
+  name-wrong d f (WordFault.undeclaredArgument a b c g) = absurd (omega (arith, declares-numbers d .2 (a .0)))
+  name-wrong d f (WordFault.symbolArgument a b c g) = absurd (omega (arith, declares-numbers d .2 (a .0)))
   name-wrong d f (WordFault.fifthVariable a b) = absurd (omega (arith, declares-numbers d))
   name-wrong d f (WordFault.fifthArgument a b) = absurd (omega (arith, declares-numbers d))
 
@@ -83,7 +85,8 @@ module _ {s : Bytes} {k i p : ℕ} where
   kind-wrong h z m l r e (WordFault.noKind a b c) = c m l r e
   kind-wrong h z m l r e (WordFault.noArgument a b c) = omega arith
   kind-wrong h z m l r e (WordFault.longArgument a b c) = omega arith
-  kind-wrong h z m l r e (WordFault.unknownArgument a b c) = omega arith
+  kind-wrong h z m l r e (WordFault.undeclaredArgument a b c g) = omega arith
+  kind-wrong h z m l r e (WordFault.symbolArgument a b c g) = omega arith
   kind-wrong h z m l r e (WordFault.fifthVariable a b) = omega arith
   kind-wrong h z m l r e (WordFault.fifthArgument a b) = omega arith
 
@@ -99,7 +102,8 @@ module _ {s : Bytes} {k i p : ℕ} where
   argument-wrong x (inl f) (WordFault.noArgument a b c) = absurd (b f)
   argument-wrong x (inr f) (WordFault.noArgument a b c) = absurd (false≢true (sym c ∙ f))
   argument-wrong x f (WordFault.longArgument a b c) = (b, inl (c, refl))
-  argument-wrong x f (WordFault.unknownArgument a b c) = (b, inr (c, refl))
+  argument-wrong x f (WordFault.undeclaredArgument a b c g) = (b, inr (λ h q u d e. c (h, q, u, d, e), refl))
+  argument-wrong x f (WordFault.symbolArgument a b c g) = (b, inr (λ h q u d e. c (h, q, u, d, e), refl))
   argument-wrong x f (WordFault.fifthVariable a b) = absurd (omega arith)
   argument-wrong x f (WordFault.fifthArgument a b) = absurd (omega arith)
 
@@ -113,6 +117,7 @@ module _ {s : Bytes} {k i p : ℕ} where
   excess-wrong x (WordFault.noKind a b c) = absurd (omega (arith, excess-numbers x))
   excess-wrong x (WordFault.noArgument a b c) = absurd (omega (arith, excess-numbers x .1 (a .0)))
   excess-wrong x (WordFault.longArgument a b c) = refl
-  excess-wrong x (WordFault.unknownArgument a b c) = absurd (omega (arith, excess-numbers x .1 (a .0)))
+  excess-wrong x (WordFault.undeclaredArgument a b c g) = absurd (omega (arith, excess-numbers x .1 (a .0)))
+  excess-wrong x (WordFault.symbolArgument a b c g) = absurd (omega (arith, excess-numbers x .1 (a .0)))
   excess-wrong x (WordFault.fifthVariable a b) = refl
   excess-wrong x (WordFault.fifthArgument a b) = refl

@@ -5,7 +5,7 @@ use mathlib.Core.Path.{_≡_}
 use mathlib.Core.Bool.{Bool, true, false, _&&_}
 use mathlib.Core.List.{[], _∷_, _++_}
 use mathlib.Core.Logic.{_⊎_}
-use Prim.Native.Nat.{ℕ, _+_, _≤_, _<_}
+use Prim.Native.Nat.{ℕ, suc, _+_, _≤_, _<_}
 use lib.ListN.{length}
 use Rattle.laws.specs.Lists.{all}
 use Rattle.form.specs.Text.{Bytes, space, lf, isLower, isNameByte, varsWord, symWord, matchWord, ignoredWord, decimal}
@@ -27,6 +27,13 @@ Declares k i = ((k ≡ 0) × (1 ≤ i) × (i ≤ 4)) ⊎ ((1 ≤ k) × (i ≡ 1)
 abbrev pub IsArgument : (k i : ℕ) → Type 0
 IsArgument k i = (1 ≤ k) × (3 ≤ i) × (i ≤ 6)
 
+-- w is the name of a variable; of a symbol that a line before line k declares
+abbrev pub VariableNamed : Bytes → Bytes → Type 0
+VariableNamed s w = (h : ℕ) × (q : ℕ) × Word s 0 h q × Declares 0 h × (wordAt s q ≡ w)
+
+abbrev pub SymbolNamed : Bytes → ℕ → Bytes → Type 0
+SymbolNamed s k w = (j : ℕ) × (q : ℕ) × (1 ≤ j) × (j < k) × Word s j 1 q × (wordAt s q ≡ w)
+
 -- what may be wrong with word number i of line k, which begins at p: the lines `vars …` and `sym NAME KIND ARGS`
 pub data WordFault (s : Bytes) (k i p : ℕ) : ℕ → Type 0 where
   -- "First line: `vars`"
@@ -46,9 +53,12 @@ pub data WordFault (s : Bytes) (k i p : ℕ) : ℕ → Type 0 where
   -- "ARGS are 0 to 4 words, each a declared variable or `_`": no name and not `_`; a name over 12 bytes
   noArgument : IsArgument k i → (wordAt s p ≡ ignoredWord → ⊥) → isNameForm (wordAt s p) ≡ false → WordFault s k i p 2
   longArgument : IsArgument k i → isNameForm (wordAt s p) ≡ true → 12 < length (wordAt s p) → WordFault s k i p 3
-  -- "name not declared"; "a symbol's name among ARGS … is 5": no variable has this name
-  unknownArgument : IsArgument k i → isNameForm (wordAt s p) ≡ true
-      → ((h q : ℕ) → Word s 0 h q → Declares 0 h → wordAt s q ≡ wordAt s p → ⊥) → WordFault s k i p 5
+  -- "name not declared": neither a variable nor, up to this line, a symbol has this name
+  undeclaredArgument : IsArgument k i → isNameForm (wordAt s p) ≡ true → (VariableNamed s (wordAt s p) → ⊥) → (SymbolNamed s (suc k) (wordAt s p) → ⊥)
+      → WordFault s k i p 5
+  -- "a symbol's name among ARGS … is 5"
+  symbolArgument : IsArgument k i → isNameForm (wordAt s p) ≡ true → (VariableNamed s (wordAt s p) → ⊥) → SymbolNamed s (suc k) (wordAt s p)
+      → WordFault s k i p 5
   -- "the first excess word, of any form, carries 3": a fifth variable, a fifth argument
   fifthVariable : k ≡ 0 → i ≡ 5 → WordFault s k i p 3
   fifthArgument : 1 ≤ k → i ≡ 7 → WordFault s k i p 3
@@ -61,9 +71,10 @@ pub data TokenFault (s : Bytes) (k p q : ℕ) : ℕ → Type 0 where
   thirtySecond : isLower (at s q) ≡ true → 31 ≤ occurrences (before s p q) → TokenFault s k p q 3
   -- "at most 16 parentheses open together": a seventeenth, and any more
   seventeenthOpen : at s q ≡ opening → 16 + signs closing (before s p q) ≤ signs opening (before s p q) → TokenFault s k p q 3
-  -- "name not declared"; "a variable's in the pattern, is 5": no symbol has this name
-  unknownSymbol : isLower (at s q) ≡ true
-      → ((j r : ℕ) → 1 ≤ j → j < k → Word s j 1 r → wordAt s r ≡ nameAt s q → ⊥) → TokenFault s k p q 5
+  -- "name not declared": neither a symbol nor a variable has this name
+  undeclaredName : isLower (at s q) ≡ true → (SymbolNamed s k (nameAt s q) → ⊥) → (VariableNamed s (nameAt s q) → ⊥) → TokenFault s k p q 5
+  -- "or a variable's in the pattern, is 5"
+  variableName : isLower (at s q) ≡ true → (SymbolNamed s k (nameAt s q) → ⊥) → VariableNamed s (nameAt s q) → TokenFault s k p q 5
   -- "pattern out of form": the tokens before it begin some pattern, and those up to it begin none
   misplaced : Begins (before s p q) → (Begins (before s p q ++ (tokenAt s q ∷ [])) → ⊥) → TokenFault s k p q 6
 
