@@ -3,6 +3,7 @@
 -- Below them: Orders (the comparisons), Fits (disjuncts read for one valuation), Step (step and skip sets so read), Stems
 -- (where the disjuncts of a new state stem from), Automaton (the pattern's positions run for one valuation, against the
 -- declarative meaning), Reduced (a row depends on the reduced trace alone), Bound (no row leaves a variable free).
+pub mod Holds
 pub mod Orders
 pub mod Members
 pub mod Fits

@@ -84,9 +84,22 @@ abbrev pub satisfies : Constraint → Valuation → Bool
 satisfies never σ = false
 satisfies (demands ds) σ = all (agrees σ) ds
 
--- whether the symbol's constraint on the event holds under the valuation
+-- "'variable equals argument' for each bound place", read for a valuation straight from the symbol and the event: no demand is
+-- gathered and none is compared with another. An ignored place asks nothing.
+abbrev pub equalAt : Valuation → Place → ℕ → Bool
+equalAt σ ignored x = true
+equalAt σ (names v) x = eqb (getD σ v 0) x
+
+-- the same at each place of a symbol
+abbrev pub equalAll : Valuation → List Place → List ℕ → Bool
+equalAll σ [] xs = true
+equalAll σ (p ∷ ps) [] = true
+equalAll σ (p ∷ ps) (x ∷ xs) = equalAt σ p x && equalAll σ ps xs
+
+-- The declarative meaning's own word for "the symbol's constraint on the event holds under the valuation": the symbol matches, and each
+-- bound place's variable equals its argument. That the matcher's constraint says the same is a law (../proofs/Holds.antt).
 unfoldable pub holds : Symbol → Event → Valuation → Bool
-holds s e σ = satisfies (constraintOf s e) σ
+holds s e σ = matches s e && equalAll σ (s .places) (e .args)
 
 -- "An event concerns a valuation if some symbol's constraint holds under it."
 unfoldable pub concerns : List Symbol → Event → Valuation → Bool

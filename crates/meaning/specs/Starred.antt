@@ -44,15 +44,15 @@ d = names 0
 abbrev s : Place
 s = names 1
 
--- B1: load 1 d s, drop 2 d, clean 3 d
+-- B1: load 1 d s, dropped 2 d, clean 3 d
 abbrev b1 : Regex → Tracematch
 b1 r = record { variables = 2; symbols = symbol 1 (d ∷ s ∷ []) ∷ symbol 2 (d ∷ []) ∷ symbol 3 (d ∷ []) ∷ []; pattern = r }
 
 abbrev load : ℕ → ℕ → Event
 load x y = event 1 (x ∷ y ∷ [])
 
-abbrev drop : ℕ → Event
-drop x = event 2 (x ∷ [])
+abbrev dropped : ℕ → Event
+dropped x = event 2 (x ∷ [])
 
 abbrev clean : ℕ → Event
 clean x = event 3 (x ∷ [])
@@ -77,21 +77,21 @@ none = accepted []
 abbrev row17 : Answer
 row17 = accepted ((1 ∷ 7 ∷ []) ∷ [])
 
--- "Events load(1,7), load(2,8), drop(1), clean(2), drop(2), drop(1) print, whole"
+-- "Events load(1,7), load(2,8), dropped(1), clean(2), dropped(2), dropped(1) print, whole"
 unfoldable pub listing : Case
 listing =
     record {
       tracematch = b1 (cat (lit 0) (plus (lit 1)));
-      events = load 1 7 ∷ load 2 8 ∷ drop 1 ∷ clean 2 ∷ drop 2 ∷ drop 1 ∷ [];
+      events = load 1 7 ∷ load 2 8 ∷ dropped 1 ∷ clean 2 ∷ dropped 2 ∷ dropped 1 ∷ [];
       expected = none ∷ none ∷ row17 ∷ none ∷ none ∷ row17 ∷ [];
     }
 
--- "B1, load(1,7), a kind-9 event, drop(1): row 1 7."
+-- "B1, load(1,7), a kind-9 event, dropped(1): row 1 7."
 unfoldable pub unknownKind : Case
 unknownKind =
     record {
       tracematch = b1 (cat (lit 0) (plus (lit 1)));
-      events = load 1 7 ∷ event 9 [] ∷ drop 1 ∷ [];
+      events = load 1 7 ∷ event 9 [] ∷ dropped 1 ∷ [];
       expected = none ∷ none ∷ row17 ∷ [];
     }
 
@@ -109,12 +109,12 @@ overlapping =
       expected = none ∷ accepted ([] ∷ []) ∷ [];
     }
 
--- "Pattern `load* load drop`, load(1,7) twice, drop(1): one row."
+-- "Pattern `load* load dropped`, load(1,7) twice, dropped(1): one row."
 unfoldable pub oneRow : Case
 oneRow =
     record {
       tracematch = b1 (cat (star (lit 0)) (cat (lit 0) (lit 1)));
-      events = load 1 7 ∷ load 1 7 ∷ drop 1 ∷ [];
+      events = load 1 7 ∷ load 1 7 ∷ dropped 1 ∷ [];
       expected = none ∷ none ∷ row17 ∷ [];
     }
 
