@@ -28,11 +28,11 @@ use Rattle.book.specs.Books.{readingFor, bookFor, emptyBook, viewBook}
 use Rattle.state.specs.States.{stateOf, heldFirst, viewState}
 use Rattle.sound.specs.Soundness.{symbolCounts, bookCounts, bookSound, slotCounts, stateCounts, stateSound}
 use Rattle.writer.specs.RowBytes.{wordBytes, rowBytes}
-use Rattle.watch.specs.Calls.{freshState, rowsBy, stateBy, leavesFreeBy, roomBy, unsound, outOfForm, tooMany, noRoom, noSpace, answerTo, taken, bufferAfter}
-use Rattle.watch.specs.Runs.{make, allBytes}
+use Rattle.calls.specs.Calls.{freshState, rowsBy, stateBy, leavesFreeBy, roomBy, unsound, outOfForm, tooMany, noRoom, noSpace, answerTo, taken, bufferAfter}
+use Rattle.calls.specs.Runs.{make, allBytes}
 use Rattle.book.proofs.Bench as Bench
 use Rattle.fault.proofs.Refused.{refused}
-use Rattle.watch.proofs.Listed.{listed}
+use Rattle.calls.proofs.Listed.{listed}
 use Rattle.examples.specs.Starred.{Entry, runs, reads, callOf, outcome, wanted, Meant, table}
 
 pub computed : map outcome table ≡ map wanted table

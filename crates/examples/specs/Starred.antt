@@ -12,8 +12,8 @@ use Rattle.form.specs.Form.{Form}
 use Rattle.fault.specs.Rules.{Rules}
 use Rattle.book.specs.Answers as Reading
 use Rattle.book.specs.Books.{reading}
-use Rattle.watch.specs.Answers.{numberOf}
-use Rattle.watch.specs.Runs.{Call, event, Made, runOf, acceptedIn, traceOf, Within, Delivered}
+use Rattle.calls.specs.Answers.{numberOf}
+use Rattle.calls.specs.Runs.{Call, event, Made, runOf, acceptedIn, traceOf, Within, Delivered}
 
 -- a number below 256 in four bytes
 abbrev word : ℕ → Bytes

@@ -44,7 +44,7 @@ d = names 0
 abbrev s : Place
 s = names 1
 
--- B1: load 1 d s, dropped 2 d, clean 3 d
+-- B1: load 1 d s, drop 2 d, clean 3 d
 abbrev b1 : Regex → Tracematch
 b1 r = record { variables = 2; symbols = symbol 1 (d ∷ s ∷ []) ∷ symbol 2 (d ∷ []) ∷ symbol 3 (d ∷ []) ∷ []; pattern = r }
 
@@ -77,7 +77,7 @@ none = accepted []
 abbrev row17 : Answer
 row17 = accepted ((1 ∷ 7 ∷ []) ∷ [])
 
--- "Events load(1,7), load(2,8), dropped(1), clean(2), dropped(2), dropped(1) print, whole"
+-- "Events load(1,7), load(2,8), drop(1), clean(2), drop(2), drop(1) print, whole"
 unfoldable pub listing : Case
 listing =
     record {
@@ -86,7 +86,7 @@ listing =
       expected = none ∷ none ∷ row17 ∷ none ∷ none ∷ row17 ∷ [];
     }
 
--- "B1, load(1,7), a kind-9 event, dropped(1): row 1 7."
+-- "B1, load(1,7), a kind-9 event, drop(1): row 1 7."
 unfoldable pub unknownKind : Case
 unknownKind =
     record {
@@ -109,7 +109,7 @@ overlapping =
       expected = none ∷ accepted ([] ∷ []) ∷ [];
     }
 
--- "Pattern `load* load dropped`, load(1,7) twice, dropped(1): one row."
+-- "Pattern `load* load drop`, load(1,7) twice, drop(1): one row."
 unfoldable pub oneRow : Case
 oneRow =
     record {

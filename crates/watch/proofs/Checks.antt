@@ -22,10 +22,10 @@ use Rattle.sound.proofs.Soundness.{book-counts, book-view, book-symbols, state-
 use Rattle.record.specs.declared.Decoded.{Decoded}
 use Rattle.record.specs.Records.{isRecord, eventIn, eventOf, viewEvent, decoded}
 use Rattle.record.proofs.Records.{decoded-ok, decoded-event, view-event, event-count, event-few}
-use Rattle.watch.specs.Answers.{numberOf, firstOf}
-use Rattle.watch.specs.Calls.{leavesFreeBy, roomBy, unsound, outOfForm, tooMany, noRoom, decisions}
+use Rattle.calls.specs.Answers.{numberOf, firstOf}
+use Rattle.calls.specs.Calls.{leavesFreeBy, roomBy, unsound, outOfForm, tooMany, noRoom, decisions}
 use Rattle.watch.specs.Inner.{judgedNumber}
-use Rattle.watch.specs.declared.Answer.the-variants.{Accepted, Unsound, TooMany, NoRoom}
+use Rattle.calls.specs.declared.EventAnswer.the-variants.{Accepted, Unsound, TooMany, NoRoom}
 
 -- a sound book
 pub record BookSound (b : Book) : Type 0 where

@@ -26,22 +26,22 @@ use Rattle.writer.specs.RowBytes.{rowBytes}
 use Rattle.writer.proofs.RowBytes.{row-wide}
 use Rattle.tally.specs.declared.Tally.{Tally}
 use Rattle.tally.specs.Tallies.{tallied}
-use Rattle.watch.specs.Answers.{numberOf}
+use Rattle.calls.specs.Answers.{numberOf}
 use Rattle.watch.specs.Inner.{answerOf}
-use Rattle.watch.specs.Calls.{isAccepted, rowsBy, stateBy, unsound, outOfForm, tooMany, noRoom, noSpace, answerTo, taken, bufferAfter}
+use Rattle.calls.specs.Calls.{isAccepted, rowsBy, stateBy, unsound, outOfForm, tooMany, noRoom, noSpace, answerTo, taken, bufferAfter}
 use Rattle.watch.specs.Inner.{Moved}
-use Rattle.watch.specs.declared.Answer.{Answer}
-use Rattle.watch.specs.declared.Answer.the-variants.{Accepted, Unsound, OutOfForm, TooMany, NoRoom, NoSpace}
-use Rattle.watch.specs.declared.Taken.{Taken}
+use Rattle.calls.specs.declared.EventAnswer.{EventAnswer}
+use Rattle.calls.specs.declared.EventAnswer.the-variants.{Accepted, Unsound, OutOfForm, TooMany, NoRoom, NoSpace}
+use Rattle.calls.specs.declared.Taken.{Taken}
 use Rattle.watch.proofs.Checks.{stepNumber, number-book, BookSound, book-facts}
 use Rattle.watch.proofs.Steps.{mem-take, pad-few}
 
 -- the answer of the checks 9 to 12, and a where none of them fails
-abbrev four : (p q m n : Bool) → Answer → Answer
+abbrev four : (p q m n : Bool) → EventAnswer → EventAnswer
 four p q m n a = cond p Unsound (cond q OutOfForm (cond m TooMany (cond n NoRoom a)))
 
 -- one of the first four fails: the fifth is not looked at, and the answer is told by its number
-four-refused : (p q m n : Bool) (a : Answer) → (numberOf (four p q m n Accepted) ≡ 0 → ⊥)
+four-refused : (p q m n : Bool) (a : EventAnswer) → (numberOf (four p q m n Accepted) ≡ 0 → ⊥)
     → (four p q m n a ≡ answerOf (numberOf (four p q m n Accepted))) × (isAccepted (four p q m n a) ≡ false)
 unfolding answerOf
 four-refused true q m n a h = (refl, refl)
@@ -51,7 +51,7 @@ four-refused false false false true a h = (refl, refl)
 four-refused false false false false a h = absurd (h refl)
 
 -- none of them fails
-four-passed : (p q m n : Bool) (a : Answer) → numberOf (four p q m n Accepted) ≡ 0 → four p q m n a ≡ a
+four-passed : (p q m n : Bool) (a : EventAnswer) → numberOf (four p q m n Accepted) ≡ 0 → four p q m n a ≡ a
 four-passed true q m n a h = absurd (omega arith)
 four-passed false true m n a h = absurd (omega arith)
 four-passed false false true n a h = absurd (omega arith)
@@ -68,7 +68,7 @@ passed-sound b s r h = book-facts b (go (bookSound b) refl)
 
 module _ (b : Book) (s : State) (r buffer : Bytes) (place : ℕ) where
   -- the answer of the buffer's check
-  abbrev last : Answer
+  abbrev last : EventAnswer
   last = cond (noSpace b s r buffer place) NoSpace Accepted
 
   -- the rows of the event, as the rules have them

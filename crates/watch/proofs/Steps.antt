@@ -45,7 +45,7 @@ use Rattle.record.specs.declared.Decoded.{Decoded}
 use Rattle.record.specs.Records.{eventIn, viewEvent, decoded}
 use Rattle.rows.specs.Valuations.{valuationsIn, rowsGrown}
 use Rattle.rows.proofs.Valuations as Words
-use Rattle.watch.specs.Calls.{rowsBy, stateBy, leavesFreeBy, roomBy}
+use Rattle.calls.specs.Calls.{rowsBy, stateBy, leavesFreeBy, roomBy}
 use Rattle.watch.specs.Inner.{judgedNumber, Moved}
 use Rattle.watch.proofs.Checks.{BookSound, StateSound, judged-free, judged-many, judged-room, stepNumber, number-judged, decoded-record, decoded-view}
 

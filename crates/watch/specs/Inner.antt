@@ -13,12 +13,12 @@ use Rattle.work.specs.Bounded.{rowLimit}
 use Rattle.rows.specs.Valuations.{valuationsIn}
 use Rattle.book.specs.declared.Book.{Book}
 use Rattle.state.specs.declared.State.{State}
-use Rattle.watch.specs.declared.Answer.{Answer}
-use Rattle.watch.specs.declared.Answer.the-variants.{Accepted, Unsound, OutOfForm, TooMany, NoRoom, NoSpace}
-use Rattle.watch.specs.Calls.{rowsBy, stateBy, leavesFreeBy, roomBy}
+use Rattle.calls.specs.declared.EventAnswer.{EventAnswer}
+use Rattle.calls.specs.declared.EventAnswer.the-variants.{Accepted, Unsound, OutOfForm, TooMany, NoRoom, NoSpace}
+use Rattle.calls.specs.Calls.{rowsBy, stateBy, leavesFreeBy, roomBy}
 
 -- the answer with a number
-unfoldable pub answerOf : ℕ → Answer
+unfoldable pub answerOf : ℕ → EventAnswer
 answerOf n =
     cond (eqb n 0) Accepted
     (cond (eqb n 9) Unsound

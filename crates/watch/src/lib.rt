@@ -1,5 +1,7 @@
 // The watch: the public calls. A book is read, a state is started afresh, and every event is taken as it comes.
 use book::Book;
+pub use calls::EventAnswer;
+pub use calls::Taken;
 use constraint::Constraint;
 pub use reader::name;
 pub use reader::name_place;
@@ -23,29 +25,10 @@ ghost use Rattle.advance.specs.Held.{heldIn};
 ghost use Rattle.state.specs.States.{heldFirst};
 ghost use Rattle.sound.specs.Soundness.{bookSound, stateSound};
 ghost use Rattle.tally.specs.Tallies.{tallied};
-ghost use Rattle.watch.specs.Answers.{numberOf, placeOf, firstOf};
+ghost use Rattle.calls.specs.Answers.{numberOf, placeOf, firstOf};
 ghost use Rattle.watch.specs.Inner.{answerOf};
-ghost use Rattle.watch.specs.Calls.{freshState, roomBy, decisions, taken, bufferAfter};
+ghost use Rattle.calls.specs.Calls.{freshState, roomBy, decisions, taken, bufferAfter};
 ghost use Rattle.watch.specs.Inner.{judgedNumber, Moved};
-
-// The answers 0 and 9 to 13 of document 01.
-pub enum Answer {
-    Accepted,
-    Unsound,
-    OutOfForm,
-    TooMany,
-    NoRoom,
-    NoSpace,
-}
-
-// What an event call hands back: the answer, the count of rows, and book, state and tally as they are then.
-pub struct Taken {
-    pub answer: Answer,
-    pub rows: usize,
-    pub book: Book,
-    pub state: State,
-    pub tally: Tally,
-}
 
 // What the pure step decides: the answer's number (0, 9, 10, 11 or 12), the next state, and how many valuations are in the lent words.
 struct Stepped {
@@ -146,16 +129,16 @@ fn step(book: Book, state: State, bytes: &[u8], out: &mut [u32; 8256]) -> Steppe
 }
 
 // The answer with a number.
-fn answer_of(number: usize) -> Answer
+fn answer_of(number: usize) -> EventAnswer
     ensures { λ r. ⌜ r ≡ answerOf number ⌝ }
 {
     match number {
-        0 => Answer::Accepted,
-        9 => Answer::Unsound,
-        10 => Answer::OutOfForm,
-        11 => Answer::TooMany,
-        12 => Answer::NoRoom,
-        _ => Answer::NoSpace,
+        0 => EventAnswer::Accepted,
+        9 => EventAnswer::Unsound,
+        10 => EventAnswer::OutOfForm,
+        11 => EventAnswer::TooMany,
+        12 => EventAnswer::NoRoom,
+        _ => EventAnswer::NoSpace,
     }
 }
 
@@ -206,7 +189,7 @@ pub fn event(
         writer::write_rows(rows, place, &words, n, next.number, book.variables);
         let t = tally.added(1, 0, n as u64);
         return Taken {
-            answer: Answer::Accepted,
+            answer: EventAnswer::Accepted,
             rows: n,
             book: book,
             state: next,
@@ -217,29 +200,29 @@ pub fn event(
 }
 
 // Document 01's number of an answer.
-pub fn number_of(a: Answer) -> usize
+pub fn number_of(a: EventAnswer) -> usize
     ensures { λ r. ⌜ r ≡ numberOf a ⌝ }
 {
     match a {
-        Answer::Accepted => 0,
-        Answer::Unsound => 9,
-        Answer::OutOfForm => 10,
-        Answer::TooMany => 11,
-        Answer::NoRoom => 12,
-        Answer::NoSpace => 13,
+        EventAnswer::Accepted => 0,
+        EventAnswer::Unsound => 9,
+        EventAnswer::OutOfForm => 10,
+        EventAnswer::TooMany => 11,
+        EventAnswer::NoRoom => 12,
+        EventAnswer::NoSpace => 13,
     }
 }
 
 // The place beside it: answers 9 to 13 carry place 0.
-pub fn place_of(a: Answer) -> usize
+pub fn place_of(a: EventAnswer) -> usize
     ensures { λ r. ⌜ r ≡ placeOf a ⌝ }
 {
     match a {
-        Answer::Accepted => 0,
-        Answer::Unsound => 0,
-        Answer::OutOfForm => 0,
-        Answer::TooMany => 0,
-        Answer::NoRoom => 0,
-        Answer::NoSpace => 0,
+        EventAnswer::Accepted => 0,
+        EventAnswer::Unsound => 0,
+        EventAnswer::OutOfForm => 0,
+        EventAnswer::TooMany => 0,
+        EventAnswer::NoRoom => 0,
+        EventAnswer::NoSpace => 0,
     }
 }

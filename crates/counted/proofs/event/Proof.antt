@@ -50,9 +50,9 @@ use denote.Exit.{yes}
 use Rattle.book.specs.declared.Book.{Book}
 use Rattle.state.specs.declared.State.{State}
 use Rattle.tally.specs.declared.Tally.{Tally}
-use Rattle.watch.specs.declared.Taken.{Taken}
+use Rattle.calls.specs.declared.Taken.{Taken}
 use Rattle.counted.specs.declared.Given as GD
-use Rattle.watch.specs.Calls.{taken, bufferAfter}
+use Rattle.calls.specs.Calls.{taken, bufferAfter}
 use Rattle.counted.specs.Given.{givenOf}
 use Rattle.book.proofs.Book as B
 use Rattle.book.proofs.Book.Laws as B′
@@ -61,8 +61,8 @@ use Rattle.state.proofs.State.Laws as S′
 use Rattle.tally.proofs.Walks.{local, shown, had}
 use Rattle.tally.proofs.Tally as T
 use Rattle.tally.proofs.Tally.Laws as T′
-use Rattle.watch.proofs.Taken as R
-use Rattle.watch.proofs.Taken.Laws as R′
+use Rattle.calls.proofs.Taken as R
+use Rattle.calls.proofs.Taken.Laws as R′
 use Rattle.counted.proofs.Given as G
 use Rattle.counted.proofs.Given.Laws as G′
 use Rattle.watch.proofs.event as watched

@@ -33,11 +33,11 @@ use Rattle.book.proofs.Bench.{fields, whole}
 use Rattle.state.specs.States.{stateOf, heldFirst, viewState}
 use Rattle.state.proofs.States.{view-state}
 use Rattle.sound.specs.Soundness.{symbolCounts, bookCounts, bookSound, stateSound}
-use Rattle.watch.specs.declared.Answer.{Answer}
-use Rattle.watch.specs.declared.Answer.the-variants.{Accepted, OutOfForm, TooMany, NoRoom, NoSpace}
-use Rattle.watch.specs.Runs.{Lent, Made, wasAccepted}
-use Rattle.watch.specs.Calls.{unsound, leavesFreeBy, rowsBy, stateBy, roomBy}
-use Rattle.watch.proofs.States.{taken-back, held-sound, few-held, lengths, counts}
+use Rattle.calls.specs.declared.EventAnswer.{EventAnswer}
+use Rattle.calls.specs.declared.EventAnswer.the-variants.{Accepted, OutOfForm, TooMany, NoRoom, NoSpace}
+use Rattle.calls.specs.Runs.{Lent, Made, wasAccepted}
+use Rattle.calls.specs.Calls.{unsound, leavesFreeBy, rowsBy, stateBy, roomBy}
+use Rattle.calls.proofs.States.{taken-back, held-sound, few-held, lengths, counts}
 
 -- a struct that holds the book of a tracematch, as a reading hands it back
 pub record Read (b : Book) (tm : Tracematch) : Type 0 where
@@ -83,7 +83,7 @@ abbrev pub plain : List Made → List Runs.Call
 plain ms = map plainCall ms
 
 -- the answer to a call in a plain state, by the definitions of the crate meaning
-pub data Decision (tm : Tracematch) (s : State) (l : Lent) : Answer → Type 0 where
+pub data Decision (tm : Tracematch) (s : State) (l : Lent) : EventAnswer → Type 0 where
   outOfForm : isRecord (l .bytes) ≡ false → Decision tm s l OutOfForm
   tooMany : isRecord (l .bytes) ≡ true → s .number ≡ eventLimit → Decision tm s l TooMany
   noRoom : isRecord (l .bytes) ≡ true → s .number < eventLimit → room (bookOf tm) (s .held) (eventIn (l .bytes)) ≡ false → Decision tm s l NoRoom

@@ -4,11 +4,10 @@ use mathlib.Core.Bool.{Bool, true, false, cond, not, _&&_, _||_}
 use mathlib.Core.List.{List, [], _∷_, _++_}
 use Prim.Native.Nat.{ℕ, suc, _+_, _*_}
 use lib.Dec.{eqb, ltb}
-use lib.ListN.{length, take}
+use lib.ListN.{length}
 use Rattle.laws.specs.Lists.{gather}
 use Rattle.laws.specs.Parts.{splice}
 use Rattle.meaning.specs.Events as Events
-use Rattle.meaning.specs.Book as Plain
 use Rattle.meaning.specs.Labels as Labels
 use Rattle.meaning.specs.Room.{room}
 use Rattle.meaning.specs.Rows.{rows, leavesFree}
@@ -23,17 +22,17 @@ use Rattle.sound.specs.Soundness.{bookSound, stateSound}
 use Rattle.writer.specs.RowBytes.{rowBytes}
 use Rattle.tally.specs.declared.Tally.{Tally}
 use Rattle.tally.specs.Tallies.{tallied}
-use Rattle.watch.specs.Answers.{Check, firstOf}
-use Rattle.watch.specs.declared.Answer.{Answer}
-use Rattle.watch.specs.declared.Answer.the-variants.{Accepted, Unsound, OutOfForm, TooMany, NoRoom, NoSpace}
-use Rattle.watch.specs.declared.Taken.{Taken}
+use Rattle.calls.specs.Answers.{Check, firstOf}
+use Rattle.calls.specs.declared.EventAnswer.{EventAnswer}
+use Rattle.calls.specs.declared.EventAnswer.the-variants.{Accepted, Unsound, OutOfForm, TooMany, NoRoom, NoSpace}
+use Rattle.calls.specs.declared.Taken.{Taken}
 
 -- "A fresh state has all 128 disjunct places free and event number 0."
 unfoldable pub freshState : State
 freshState = stateOf Labels.fresh
 
 -- "An event is accepted where its call answers 0"
-abbrev pub isAccepted : Answer → Bool
+abbrev pub isAccepted : EventAnswer → Bool
 isAccepted Accepted = true
 isAccepted Unsound = false
 isAccepted OutOfForm = false
@@ -87,7 +86,7 @@ module _ (b : Book) (s : State) (record-bytes : Bytes) where
     unfoldable pub noSpace : Bool
     noSpace = ltb (length buffer) (place + 24 * length (rowsBy b s (eventIn record-bytes)))
 
-    unfoldable pub answerTo : Answer
+    unfoldable pub answerTo : EventAnswer
     answerTo = firstOf (decisions ++ (record { fails = noSpace; answer = NoSpace } ∷ []))
 
     -- all that the call hands back: on acceptance the next state, the count of its rows and a tally of one accepted event and those

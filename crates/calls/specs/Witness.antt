@@ -8,8 +8,8 @@ use Rattle.meaning.specs.Events.{names}
 use Rattle.meaning.specs.Meaning.{Tracematch}
 use Rattle.form.specs.Text.{Bytes, ascii, Declarations, tracematchOf}
 use Rattle.book.specs.Books.{reading}
-use Rattle.watch.specs.Answers.{numberOf}
-use Rattle.watch.specs.Runs.{Call, event, Made, runOf, acceptedIn}
+use Rattle.calls.specs.Answers.{numberOf}
+use Rattle.calls.specs.Runs.{Call, event, Made, runOf, acceptedIn}
 
 -- book B1
 unfoldable pub text : Bytes

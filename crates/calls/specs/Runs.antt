@@ -20,8 +20,8 @@ use Rattle.state.specs.declared.State.{State}
 use Rattle.writer.specs.RowBytes.{rowBytes}
 use Rattle.tally.specs.declared.Tally.{Tally}
 use Rattle.tally.specs.Tallies.{tallied}
-use Rattle.watch.specs.Calls.{isAccepted, taken, bufferAfter, freshState}
-use Rattle.watch.specs.declared.Taken.{Taken}
+use Rattle.calls.specs.Calls.{isAccepted, taken, bufferAfter, freshState}
+use Rattle.calls.specs.declared.Taken.{Taken}
 
 -- what the caller lends at one call: "Record, row buffer, start place and tally are whatever the caller lends at that call"
 pub record Lent : Type 0 where

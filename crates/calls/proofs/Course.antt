@@ -31,19 +31,19 @@ use Rattle.state.specs.declared.State.{State as Struct}
 use Rattle.state.specs.States.{stateOf}
 use Rattle.tally.specs.Tallies.{tallied}
 use Rattle.writer.specs.RowBytes.{rowBytes}
-use Rattle.watch.specs.declared.Answer.{Answer}
-use Rattle.watch.specs.declared.Answer.the-variants.{Accepted, OutOfForm, TooMany, NoRoom, NoSpace}
-use Rattle.watch.specs.declared.Taken.{Taken}
-use Rattle.watch.specs.Calls as Calls
-use Rattle.watch.specs.Calls.{isAccepted, rowsBy, stateBy, answerTo, taken, bufferAfter, freshState}
-use Rattle.watch.specs.Runs.{Lent, Call, event, allBytes, Made, make, runFrom, runOf, wasAccepted, acceptedIn, traceOf, Within}
-use Rattle.watch.proofs.States.{number-within}
-use Rattle.watch.proofs.Bridge.{Read, read, Reached, reached-fresh, reached-next, plain, Decision, outOfForm, tooMany, noRoom, noSpace, accepted}
-use Rattle.watch.proofs.Bridge.{variables, rows-by, state-by, room-by, sound-by}
+use Rattle.calls.specs.declared.EventAnswer.{EventAnswer}
+use Rattle.calls.specs.declared.EventAnswer.the-variants.{Accepted, OutOfForm, TooMany, NoRoom, NoSpace}
+use Rattle.calls.specs.declared.Taken.{Taken}
+use Rattle.calls.specs.Calls as Calls
+use Rattle.calls.specs.Calls.{isAccepted, rowsBy, stateBy, answerTo, taken, bufferAfter, freshState}
+use Rattle.calls.specs.Runs.{Lent, Call, event, allBytes, Made, make, runFrom, runOf, wasAccepted, acceptedIn, traceOf, Within}
+use Rattle.calls.proofs.States.{number-within}
+use Rattle.calls.proofs.Bridge.{Read, read, Reached, reached-fresh, reached-next, plain, Decision, outOfForm, tooMany, noRoom, noSpace, accepted}
+use Rattle.calls.proofs.Bridge.{variables, rows-by, state-by, room-by, sound-by}
 
 -- What a call hands back and leaves, for any book and state.
 module _ (b : Book) (s : Struct) (l : Lent) where
-  abbrev pub reply : Answer
+  abbrev pub reply : EventAnswer
   reply = answerTo b s (l .bytes) (l .buffer) (l .place)
 
   abbrev pub back : Taken
@@ -123,7 +123,7 @@ pub data Course (tm : Tracematch) : State → List Made → Type 0 where
 -- accepted or refused, a call leads to a reached state
 reached-after : (tm : Tracematch) → Proper tm → (s : State) → Reached tm s → (l : Lent)
     → (isRecord (l .bytes) ≡ true → wellFormed (eventIn (l .bytes)) ≡ true)
-    → (a : Answer) → Decision tm s l a → Reached tm (cond (isAccepted a) (next (bookOf tm) s (eventIn (l .bytes))) s)
+    → (a : EventAnswer) → Decision tm s l a → Reached tm (cond (isAccepted a) (next (bookOf tm) s (eventIn (l .bytes))) s)
 reached-after tm ok s h l w a (outOfForm x) = h
 reached-after tm ok s h l w a (tooMany x y) = h
 reached-after tm ok s h l w a (noRoom x y z) = h
@@ -229,7 +229,7 @@ accepted-at tm {s} (call {m = m₀} {ms = ms} d c) i m h = go (wasAccepted m₀)
         record { state = r .state; done = r .done; accepted = r .accepted; number = r .number; gave = r .gave }
 
 -- what acceptance says of the record and of the buffer
-pub accepted-parts : (tm : Tracematch) (s : State) (l : Lent) (a : Answer) → Decision tm s l a → isAccepted a ≡ true
+pub accepted-parts : (tm : Tracematch) (s : State) (l : Lent) (a : EventAnswer) → Decision tm s l a → isAccepted a ≡ true
     → (isRecord (l .bytes) ≡ true) × (l .place + 24 * length (rows (bookOf tm) (s .held) (eventIn (l .bytes))) ≤ length (l .buffer))
 accepted-parts tm s l a (outOfForm x) h = absurd (false≢true h)
 accepted-parts tm s l a (tooMany x y) h = absurd (false≢true h)
