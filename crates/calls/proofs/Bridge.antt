@@ -1,12 +1,14 @@
 -- From event calls over structs and bytes to plain runs: the book of a read text is that of its tracematch, and each call of a run
 -- meets a state that a plain run reaches, where it is decided by the definitions of the crate meaning. For Listed, Answered, Crossed.
 use mathlib.Core.Path.{_≡_, refl, sym, ap, ap₂, _∙_}
-use mathlib.Core.Bool.{true, false, _&&_, and-eq-true-iff, and-false}
+use mathlib.Core.Bool.{true, false, _&&_, and-eq-true-iff, and-true, and-false}
 use mathlib.Core.List.{List, [], _∷_, _++_, map}
 use Prim.Native.Nat.{ℕ, _+_, _*_, _≤_, _<_}
-use borrow.Author.Tests.{le-leb}
+use native.Mathlib.Omega.{arith}
+use borrow.Author.Tests.{leb-true, le-leb}
 use lib.Dec.{leb}
-use lib.ListN.{length}
+use lib.ListN.{length, take}
+use Rattle.laws.specs.Lists.{all}
 use Rattle.laws.proofs.Lists.{all-map, all-at, all-of}
 use Rattle.pattern.specs.Regex.{Regex}
 use Rattle.pattern.specs.Positions as Positions
@@ -22,17 +24,17 @@ use Rattle.meaning.specs.Runs as Runs
 use Rattle.meaning.proofs.Kept.{kept, proper-sound, state-after}
 use Rattle.meaning.proofs.Bound.{none-left-free}
 use Rattle.form.specs.Text.{Bytes, Declarations, tracematchOf}
-use Rattle.form.specs.Form.{Form}
+use Rattle.form.specs.Form.{Form, textLimit}
 use Rattle.form.proofs.Accepted.{form-proper}
 use Rattle.form.specs.Lines.{declaredTable}
 use Rattle.table.specs.Tables.{placeOf, symbolOf, tableOf}
 use Rattle.record.specs.Records.{isRecord, eventIn}
 use Rattle.book.specs.declared.Book.{Book}
 use Rattle.book.specs.Books.{reading, viewBook, bookFor}
-use Rattle.book.proofs.Bench.{fields, whole}
+use Rattle.book.proofs.Bench.{fields, whole, names-inside}
 use Rattle.state.specs.States.{stateOf, heldFirst, viewState}
 use Rattle.state.proofs.States.{view-state}
-use Rattle.sound.specs.Soundness.{symbolCounts, bookCounts, bookSound, stateSound}
+use Rattle.sound.specs.Soundness.{symbolCounts, namePlaced, bookCounts, bookSound, stateSound}
 use Rattle.calls.specs.declared.EventAnswer.{EventAnswer}
 use Rattle.calls.specs.declared.EventAnswer.the-variants.{Accepted, OutOfForm, TooMany, NoRoom, NoSpace}
 use Rattle.calls.specs.Runs.{Lent, Made, wasAccepted}
@@ -57,12 +59,26 @@ symbol-counts n y h =
     rw (few, taken-back, all-map) (all-of _ (y .places) λ p m. place-tag p)
 
 module _ (text : Bytes) (d : Declarations) (r : Regex) (f : Form text d r) where
+  names-placed : let b = reading text .book in all namePlaced (take (b .variables + b .symbols) (b .names)) ≡ true
+  names-placed =
+      let b = reading text .book in
+      all-of namePlaced (take (b .variables + b .symbols) (b .names)) λ x m. le-leb (x .start + x .size) textLimit
+      (omega (arith, leb-true (x .start + x .size) (length text) (all-at _ (names-inside text d r f) m), f .shape .short))
+
   book-counts : bookCounts (reading text .book) ≡ true
   unfolding bookCounts bookFor tableOf
   book-counts =
       let ok = form-proper text d r f in
       let t = declaredTable d .table in
-      rw (whole text d r f, le-leb (length t) 16 (ok .few), le-leb (Positions.size r) 31 (ok .occurrences), taken-back, all-map symbolCounts symbolOf t)
+      rw (
+        names-placed,
+        and-true,
+        whole text d r f,
+        le-leb (length t) 16 (ok .few),
+        le-leb (Positions.size r) 31 (ok .occurrences),
+        taken-back,
+        all-map symbolCounts symbolOf t,
+      )
       (all-of _ t λ y m. symbol-counts _ y (all-at _ (ok .symbols) m))
 
   pub read : Read (reading text .book) (tracematchOf d r)

@@ -34,8 +34,8 @@ use Rattle.book.specs.declared.Book.{Book}
 use Rattle.book.specs.Books.{viewBook}
 use Rattle.state.specs.declared.State.{State}
 use Rattle.state.specs.States.{heldFirst, viewState}
-use Rattle.sound.specs.Soundness.{slotCounts, symbolCounts, bookCounts, bookSound, stateCounts, stateSound}
-use Rattle.sound.specs.Tests.{slotSound, symbolSound, patternSound, disjunctSound, poolSound}
+use Rattle.sound.specs.Soundness.{slotCounts, symbolCounts, namePlaced, bookCounts, bookSound, stateCounts, stateSound}
+use Rattle.sound.specs.Tests.{slotSound, symbolSound, declaredSound, patternSound, disjunctSound, poolSound}
 use Rattle.sound.proofs.Sizes.{Words, StateSized, BookSized}
 use Rattle.sound.proofs.Held.{held-length}
 
@@ -139,7 +139,7 @@ pattern-parts b h k =
     (pattern-and (all (λ a. ltb a (b .symbols)) (take n (b .occurrences))) (soundMask n (b .begins)) (soundMask n (b .ends))
     (all (soundMask n) (take n (b .follows))))
 
--- a book: the number of variables and symbols, then the symbols, then the pattern
+-- a book: the number of variables and symbols, then the symbols, then the names, then the pattern
 pub book-variables : (b : Book) → 4 < b .variables → bookSound b ≡ false
 unfolding bookSound soundBook viewBook
 book-variables b h = rw (lt-leb (b .variables) 4 h) (and-false (bookCounts b))
@@ -165,14 +165,16 @@ symbols-parts v l =
     all-and symbolCounts (λ y. soundSymbol v (viewSymbol y)) l
     ∙ ap (all symbolCounts l &&_) (sym (all-map (soundSymbol v) viewSymbol l))
 
-book-and : (c s l o b e f n : Bool) → (c && (s && l && true && o && b && e && true && f && n)) ≡ (c && s && (l && true && o && b && e && f && n))
-book-and true true l o b e f n = ap (λ t. t && f && n) (and-true (l && true && o && b && e))
-book-and true false l o b e f n = refl
-book-and false s l o b e f n = refl
+book-and : (c a s l o b e f n : Bool)
+    → (c && a && (s && l && true && o && b && e && true && f && n)) ≡ (c && s && a && (l && true && o && b && e && f && n))
+book-and true true true l o b e f n = ap (λ t. t && f && n) (and-true (l && true && o && b && e))
+book-and true true false l o b e f n = refl
+book-and true false s l o b e f n = sym (ap (_&& (l && true && o && b && e && f && n)) (and-false s))
+book-and false a s l o b e f n = refl
 
 module _ (b : Book) (z : BookSized b) (few : b .variables ≤ 4) (some : 1 ≤ b .symbols) (most : b .symbols ≤ 16) where
-  book-fits : b .positions ≤ 31 → bookSound b ≡ (all (symbolSound (b .variables)) (take (b .symbols) (b .table)) && patternSound b)
-  unfolding bookSound bookCounts soundBook viewBook patternSound
+  book-fits : b .positions ≤ 31 → bookSound b ≡ (declaredSound b && patternSound b)
+  unfolding bookSound bookCounts soundBook viewBook declaredSound patternSound
   book-fits h =
       let n = b .positions in
       let t = take (b .symbols) (b .table) in
@@ -191,19 +193,18 @@ module _ (b : Book) (z : BookSized b) (few : b .variables ≤ 4) (some : 1 ≤ b
         le-leb n 31 h,
         eq-eqb n n refl,
       )
-      (book-and (all symbolCounts t) (all (soundSymbol (b .variables)) (map viewSymbol t)) (leb 1 n)
+      (book-and (all symbolCounts t) (all namePlaced (take (b .variables + b .symbols) (b .names))) (all (soundSymbol (b .variables)) (map viewSymbol t)) (leb 1 n)
       (all (λ a. ltb a (b .symbols)) (take n (b .occurrences))) (soundMask n (b .begins)) (soundMask n (b .ends))
       (all (soundMask n) (take n (b .follows))) (not (b .empty)))
 
-  pub book-parts : bookSound b ≡ (all (symbolSound (b .variables)) (take (b .symbols) (b .table)) && patternSound b)
+  pub book-parts : bookSound b ≡ (declaredSound b && patternSound b)
   unfolding bookSound bookCounts
   book-parts = go (leb (b .positions) 31) refl
     where
-      go : (t : Bool) → leb (b .positions) 31 ≡ t
-          → bookSound b ≡ (all (symbolSound (b .variables)) (take (b .symbols) (b .table)) && patternSound b)
+      go : (t : Bool) → leb (b .positions) 31 ≡ t → bookSound b ≡ (declaredSound b && patternSound b)
       go true e = book-fits (leb-true (b .positions) 31 e)
       go false e =
-          let s = all (symbolSound (b .variables)) (take (b .symbols) (b .table)) in
+          let s = declaredSound b in
           rw (e, and-false (leb (b .symbols) 16))
           (sym (ap (s &&_) (pattern-none b (ap (leb 1 (b .positions) &&_) e ∙ and-false (leb 1 (b .positions)))) ∙ and-false s))
 

@@ -1,16 +1,19 @@
 -- Answer 9, "unsound book or state": "Sound means: at least one position, every number in its declared range, no empty word,
 -- exclusions and disjuncts ascending and distinct, no exclusions at a bound variable, at most 128 disjuncts." The counts and tags
--- of the structs are judged here; the rest through the views, by the definitions of the crate meaning. What no count reaches
--- (places not taken, exclusions not counted, the value of a free variable, variables beyond the book's) is not judged; nor are the
--- places of names, which no event call reads, and the number beside an ignored place.
+-- of the structs and the places of names are judged here; the rest through the views, by the definitions of the crate meaning. What
+-- no count reaches (places not taken, exclusions not counted, the value of a free variable, variables beyond the book's, names beyond
+-- the declared ones) is not judged; nor is the number beside an ignored place.
 use mathlib.Core.Bool.{Bool, cond, _&&_}
-use Prim.Native.Nat.{ℕ}
+use Prim.Native.Nat.{ℕ, _+_}
 use lib.Dec.{leb}
 use lib.ListN.{take}
 use Rattle.laws.specs.Lists.{all}
 use Rattle.meaning.specs.Book.{soundBook}
 use Rattle.meaning.specs.Sound.{soundState}
+use Rattle.form.specs.Form.{textLimit}
 use Rattle.table.specs.declared.Symbol.{Symbol}
+use Rattle.table.specs.declared.Name.{Name}
+use Rattle.table.specs.Tables.{spanOf, inside}
 use Rattle.slot.specs.declared.Slot.{Slot}
 use Rattle.book.specs.declared.Book.{Book}
 use Rattle.book.specs.Books.{viewBook}
@@ -21,9 +24,15 @@ use Rattle.state.specs.States.{viewState}
 unfoldable pub symbolCounts : Symbol → Bool
 symbolCounts y = leb (y .count) 4 && all (λ p. leb (p .tag) 1) (take (y .count) (y .places))
 
--- the counts of a book within its arrays
+-- a name whose place is in range: it ends where a text may end, "A book is ASCII text, at most 4,096 bytes."
+abbrev pub namePlaced : Name → Bool
+namePlaced x = inside textLimit (spanOf x)
+
+-- the counts of a book within its arrays, and the places of the declared names ("variables from 0, then symbols") within a text
 unfoldable pub bookCounts : Book → Bool
-bookCounts b = leb (b .symbols) 16 && leb (b .positions) 31 && all symbolCounts (take (b .symbols) (b .table))
+bookCounts b =
+    leb (b .symbols) 16 && leb (b .positions) 31 && all symbolCounts (take (b .symbols) (b .table))
+    && all namePlaced (take (b .variables + b .symbols) (b .names))
 
 -- "unsound book": not this
 unfoldable pub bookSound : Book → Bool

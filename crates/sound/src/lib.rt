@@ -3,6 +3,7 @@ use book::Book;
 use disjunct::Disjunct;
 use slot::Slot;
 use state::State;
+use table::Name;
 use table::Place;
 use table::Symbol;
 ghost use mathlib.Core.Path.{_≡_};
@@ -17,8 +18,11 @@ ghost use Rattle.meaning.specs.Labels.{heldAt, compareHeld};
 ghost use Rattle.table.specs.Tables.{viewPlace};
 ghost use Rattle.disjunct.specs.Disjuncts.{viewDisjunct};
 ghost use Rattle.state.specs.States.{heldFirst};
-ghost use Rattle.sound.specs.Soundness.{bookSound, stateSound};
+ghost use Rattle.sound.specs.Soundness.{namePlaced, bookSound, stateSound};
 ghost use Rattle.sound.specs.Tests.{slotSound, disjunctSound, symbolSound, patternSound, poolSound};
+
+// "A book is ASCII text, at most 4,096 bytes."
+const TEXT_LIMIT: usize = 4096;
 
 fn both(a: bool, b: bool) -> bool
     ensures { λ r. ⌜ r ≡ (a && b) ⌝ }
@@ -226,6 +230,35 @@ fn sound_symbols(table: [Symbol; 16], n: usize, variables: usize) -> bool
     true
 }
 
+// A name that ends within a text. No sum: both numbers may be of any size.
+fn sound_name(x: Name) -> bool
+    ensures { λ r. ⌜ r ≡ namePlaced x ⌝ }
+{
+    if TEXT_LIMIT < x.start {
+        return false;
+    }
+    if TEXT_LIMIT - x.start < x.size {
+        return false;
+    }
+    true
+}
+
+fn sound_names(names: [Name; 20], n: usize) -> bool
+    requires { ⌜ n ≤ 20 ⌝ }
+    ensures { λ r. ⌜ r ≡ all namePlaced (take n names) ⌝ }
+{
+    let mut i: usize = 0;
+    while i < n {
+        let x = names[i];
+        if sound_name(x) {
+            i += 1;
+        } else {
+            return false;
+        }
+    }
+    true
+}
+
 // A set of positions 1 to n.
 fn sound_mask(m: u32, n: usize) -> bool
     requires { ⌜ n ≤ 31 ⌝ }
@@ -292,13 +325,16 @@ pub fn sound_book(b: Book) -> bool
 {
     let n = b.symbols;
     let table = b.table;
+    let names = b.names;
     if 4 < b.variables {
         return false;
     }
     if within(n, 1, 16) {
-        if sound_symbols(table, n, b.variables) {
-            return sound_pattern(b);
-        }
+        let declared = both(
+            sound_symbols(table, n, b.variables),
+            sound_names(names, b.variables + n),
+        );
+        return both(declared, sound_pattern(b));
     }
     false
 }
