@@ -29,12 +29,12 @@ use Rattle.tally.specs.Tallies.{tallied}
 use Rattle.calls.specs.Answers.{numberOf}
 use Rattle.watch.specs.Inner.{answerOf}
 use Rattle.calls.specs.Calls.{isAccepted, rowsBy, stateBy, unsound, outOfForm, tooMany, noRoom, noSpace, answerTo, taken, bufferAfter}
-use Rattle.watch.specs.Inner.{Moved}
+use Rattle.transition.specs.Moves.{Moved}
 use Rattle.calls.specs.declared.EventAnswer.{EventAnswer}
 use Rattle.calls.specs.declared.EventAnswer.the-variants.{Accepted, Unsound, OutOfForm, TooMany, NoRoom, NoSpace}
 use Rattle.calls.specs.declared.Taken.{Taken}
-use Rattle.watch.proofs.Checks.{stepNumber, number-book, BookSound, book-facts}
-use Rattle.watch.proofs.Steps.{mem-take, pad-few}
+use Rattle.transition.proofs.Checks.{stepNumber, number-book, BookSound, book-facts}
+use Rattle.transition.proofs.Steps.{mem-take, pad-few}
 
 -- the answer of the checks 9 to 12, and a where none of them fails
 abbrev four : (p q m n : Bool) → EventAnswer → EventAnswer

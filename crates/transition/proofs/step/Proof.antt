@@ -1,12 +1,12 @@
--- `watch::step` meets its contract: each return is the first check that fails, or what `judged` says of the event in the record.
+-- `transition::step` meets its contract: each return is the first check that fails, or what `judged` says of the event in the record.
 use mathlib.Core.Path.{sym, _∙_}
 use mathlib.Core.Logic.{⊎-elim}
 use native.Mathlib.Omega.{arith}
 use borrow.Author.Needs.{needs}
-use Rattle.watch.proofs.Checks.{book-facts, number-book, number-state, number-form, decoded-not, decoded-few}
-use Rattle.watch.proofs.Steps.{step-refused, step-judged}
-use Rattle.watch.proofs.step.Statement.{statement}
-use Rattle.watch.proofs.step.Tie as tie
+use Rattle.transition.proofs.Checks.{book-facts, number-book, number-state, number-form, decoded-not, decoded-few}
+use Rattle.transition.proofs.Steps.{step-refused, step-judged}
+use Rattle.transition.proofs.step.Statement.{statement}
+use Rattle.transition.proofs.step.Tie as tie
 
 sound-book-requires : tie.Need-sound-book-requires
 sound-book-requires c κs = search needs

@@ -1,12 +1,12 @@
--- `watch::judged` meets its contract: the lent words hold what the state holds, made wide, and the masks and constraints are those of
+-- `transition::judged` meets its contract: the lent words hold what the state holds, made wide, and the masks and constraints are those of
 -- the book, so that each test is the one of `judgedNumber`.
 use mathlib.Core.Path.{_∙_}
 use native.Mathlib.Omega.{arith}
 use borrow.Author.Needs.{needs}
-use Rattle.watch.proofs.Checks.{book-facts, state-facts}
-use Rattle.watch.proofs.Steps.{constraints-known, places-sound, masks-known, free-ends, many-ends, moved-number}
-use Rattle.watch.proofs.judged.Statement.{statement}
-use Rattle.watch.proofs.judged.Tie as tie
+use Rattle.transition.proofs.Checks.{book-facts, state-facts}
+use Rattle.transition.proofs.Steps.{constraints-known, places-sound, masks-known, free-ends, many-ends, moved-number}
+use Rattle.transition.proofs.judged.Statement.{statement}
+use Rattle.transition.proofs.judged.Tie as tie
 
 constraints-requires : tie.Need-constraints-requires
 constraints-requires c κs =

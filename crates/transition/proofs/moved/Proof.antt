@@ -1,11 +1,11 @@
--- `watch::moved` meets its contract: what the lent words hold is what the state holds, made wide, so that the answers of `advance`,
+-- `transition::moved` meets its contract: what the lent words hold is what the state holds, made wide, so that the answers of `advance`,
 -- `collect` and `store` are those of the book and the state.
 use mathlib.Core.Path.{refl}
 use borrow.Author.Needs.{needs}
-use Rattle.watch.proofs.Checks.{book-facts, state-facts}
-use Rattle.watch.proofs.Steps.{words-sound, room-none, room-some}
-use Rattle.watch.proofs.moved.Statement.{statement}
-use Rattle.watch.proofs.moved.Tie as tie
+use Rattle.transition.proofs.Checks.{book-facts, state-facts}
+use Rattle.transition.proofs.Steps.{words-sound, room-none, room-some}
+use Rattle.transition.proofs.moved.Statement.{statement}
+use Rattle.transition.proofs.moved.Tie as tie
 
 advance-requires : tie.Need-advance-requires
 advance-requires c κs =

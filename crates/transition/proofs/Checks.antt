@@ -24,7 +24,7 @@ use Rattle.record.specs.Records.{isRecord, eventIn, eventOf, viewEvent, decoded
 use Rattle.record.proofs.Records.{decoded-ok, decoded-event, view-event, event-count, event-few}
 use Rattle.calls.specs.Answers.{numberOf, firstOf}
 use Rattle.calls.specs.Calls.{leavesFreeBy, roomBy, unsound, outOfForm, tooMany, noRoom, decisions}
-use Rattle.watch.specs.Inner.{judgedNumber}
+use Rattle.transition.specs.Moves.{judgedNumber}
 use Rattle.calls.specs.declared.EventAnswer.the-variants.{Accepted, Unsound, TooMany, NoRoom}
 
 -- a sound book
