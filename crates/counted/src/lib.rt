@@ -5,6 +5,8 @@ use calls::Taken;
 use state::State;
 use tally::Tally;
 ghost use mathlib.Core.Path.{_≡_};
+ghost use mathlib.Core.Bool.{true};
+ghost use Rattle.form.specs.Text.{isBytes};
 ghost use Rattle.calls.specs.Calls.{taken, bufferAfter};
 ghost use Rattle.counted.specs.Given.{givenOf};
 
@@ -49,7 +51,8 @@ pub fn event(
 ) -> Given
     ensures { λ r. ⌜ (r ≡ givenOf (taken book state (now (bytes .entry)) (now (rows .entry)) place (now (tally .entry))))
         × (now (rows .exit) ≡ bufferAfter book state (now (bytes .entry)) (now (rows .entry)) place)
-        × (now (tally .exit) ≡ taken book state (now (bytes .entry)) (now (rows .entry)) place (now (tally .entry)) .tally) ⌝ }
+        × (now (tally .exit) ≡ taken book state (now (bytes .entry)) (now (rows .entry)) place (now (tally .entry)) .tally)
+        × (isBytes (now (bytes .entry)) ≡ true) ⌝ }
 {
     let t = watch::event(book, state, bytes, rows, place, *tally);
     *tally = tally_of(t);

@@ -1,6 +1,6 @@
 -- Theorem `starred`, about the whole table: every starred roast of document 01, its text read and its records taken, comes out as
 -- document 01 has it, by computation from the very definitions that the contracts of `read` and `event` cite (`computed`); and this
--- is what the meanings say: rows of the declarative meaning, numbers and places by the rules for texts.
+-- is what the meanings say: rows of the declarative meaning, answers by the stated rules, numbers and places by the rules for texts.
 use mathlib.Core.Path.{_≡_, refl, sym, ap, _∙_}
 use mathlib.Core.Bool.{Bool, true, _&&_}
 use mathlib.Core.List.{List, _∷_, map, List·Memᴰ, List·Memᴰ·head, List·Memᴰ·tail}
@@ -32,8 +32,10 @@ use Rattle.calls.specs.Calls.{freshState, rowsBy, stateBy, leavesFreeBy, roomBy
 use Rattle.calls.specs.Runs.{make, allBytes}
 use Rattle.book.proofs.Bench as Bench
 use Rattle.fault.proofs.Refused.{refused}
+use Rattle.calls.proofs.Answered.{answered}
+use Rattle.calls.proofs.Checks.{first-failing}
 use Rattle.calls.proofs.Listed.{listed}
-use Rattle.examples.specs.Starred.{Entry, runs, reads, callOf, outcome, wanted, Meant, table}
+use Rattle.examples.specs.Starred.{Entry, runs, late, reads, callOf, outcome, wanted, Meant, table}
 
 pub computed : map outcome table ≡ map wanted table
 unfolding bit join meet single front splice pad matches constraintOf soundBook soundSymbol compareDisjuncts skipBy sources stepSet skipSet newLabel
@@ -47,6 +49,7 @@ computed = refl
 -- the text and the records of an entry are bytes
 abbrev inBytes : Entry → Bool
 inBytes (runs t ls) = isBytes (ascii t) && allBytes (map callOf ls)
+inBytes (late t k l) = true
 inBytes (reads t n p) = isBytes (ascii t)
 
 bytes : all inBytes table ≡ true
@@ -61,7 +64,9 @@ same-at f g {l = y ∷ l} h (List·Memᴰ·tail m) = let k : map f l ≡ map g l
 meant : (e : Entry) → List·Memᴰ e table → outcome e ≡ wanted e → Meant e
 meant (runs t ls) h o =
     let (d, r, f) = Bench.accepted (ascii t) .0 (ap (λ x. x .number) o) in
-    (d, r, f, listed (ascii t) d r f (map callOf ls) (and-true-split (isBytes (ascii t)) _ (all-at inBytes bytes h) .1))
+    let b = and-true-split (isBytes (ascii t)) _ (all-at inBytes bytes h) .1 in
+    (d, r, f, listed (ascii t) d r f (map callOf ls) b, answered (ascii t) d r f (map callOf ls) b)
+meant (late t k l) h o = ?
 meant (reads t n p) h o = rw (ap (λ x. x .number) o, ap (λ x. x .place) o) at (refused (ascii t) (all-at inBytes bytes h))
 
 pub starred : (e : Entry) → List·Memᴰ e table → (outcome e ≡ wanted e) × Meant e

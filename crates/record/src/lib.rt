@@ -1,8 +1,7 @@
 // The event record: 20 lent bytes to an event, or out of form. For the event call.
 ghost use mathlib.Core.Path.{_≡_};
-ghost use mathlib.Core.Bool.{true};
 ghost use Prim.Native.Nat.{_+_, _≤_};
-ghost use lib.Dec.{eqb, ltb};
+ghost use lib.Dec.{eqb};
 ghost use lib.ListN.{length, drop};
 ghost use Rattle.laws.specs.Lists.{all};
 ghost use Rattle.record.specs.Records.{wordAt, noneDecoded, decoded};
@@ -93,9 +92,8 @@ fn decode_tail(s: &[u8]) -> Decoded
     no_event()
 }
 
-// The event in lent bytes, each of them below 256 as in every lent slice.
 pub fn decode(s: &[u8]) -> Decoded
-    ensures { λ r. ⌜ (r ≡ decoded (now (s .entry))) × (all (λ b. ltb b 256) (now (s .entry)) ≡ true) ⌝ }
+    ensures { λ r. ⌜ r ≡ decoded (now (s .entry)) ⌝ }
 {
     if s.len() == 20 {
         return decode_tail(s);

@@ -12,7 +12,6 @@ ghost use lib.ListN.{take, getD};
 ghost use Rattle.meaning.specs.Events as Events;
 ghost use Rattle.meaning.specs.Book.{followers};
 ghost use Rattle.work.specs.Wide.{wideHeld};
-ghost use Rattle.form.specs.Text.{isBytes};
 ghost use Rattle.record.specs.Records.{eventIn, viewEvent};
 ghost use Rattle.constraint.specs.Constraints.{viewConstraint, noConstraint, Ready};
 ghost use Rattle.book.specs.Books.{viewBook};
@@ -99,12 +98,11 @@ fn judged(book: Book, state: State, e: Event, out: &mut [u32; 8256]) -> Stepped
 // Any record with any book and state.
 pub fn step(book: Book, state: State, bytes: &[u8], out: &mut [u32; 8256]) -> Stepped
     ensures { λ r. ⌜ (r .number ≡ numberOf (firstOf (decisions book state (now (bytes .entry)))))
-        × (r .number ≡ 0 → Moved book state (eventIn (now (bytes .entry))) (r .state) (r .rows) (now (out .exit)))
-        × (isBytes (now (bytes .entry)) ≡ true) ⌝ }
+        × (r .number ≡ 0 → Moved book state (eventIn (now (bytes .entry))) (r .state) (r .rows) (now (out .exit))) ⌝ }
 {
-    let d = record::decode(bytes);
     if sound::sound_book(book) {
         if sound::sound_state(book, state) {
+            let d = record::decode(bytes);
             if d.ok {
                 let e = d.event;
                 return judged(book, state, e, out);
