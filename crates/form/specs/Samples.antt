@@ -8,8 +8,9 @@ use Rattle.laws.specs.Lists.{gather}
 use Rattle.pattern.specs.Regex.{Regex, lit, cat, alt, star, plus, opt}
 use Rattle.meaning.specs.Events.{Place, ignored, names}
 use Rattle.form.specs.Text.{Bytes, ascii, space, SymbolLine, Declarations, symbolOf, Span, spans, text}
+use Rattle.form.specs.Form.{symbolNames}
 use Rattle.form.specs.Scan.{fail}
-use Rattle.form.specs.Lines.{Table}
+use Rattle.form.specs.Lines.{Table, bytesAt}
 use Rattle.form.specs.Reading.{Outcome, refused, readingOf}
 
 -- the pattern's bytes behind `match` and a space, what is declared, where the variables' and the symbols' names stand, and the tree
@@ -24,15 +25,27 @@ pub data Sample : Type 0 where
   accepts : Bytes → Read → Sample
   refuses : Bytes → (number place : ℕ) → Sample
 
--- what the reader gives, and for an accepted text what the printer writes and where it puts the names
+-- what the reader gives, and of an accepted text what the printer writes, where it puts the names, and the bytes there
 pub record Result : Type 0 where
   pub reading : Outcome
   pub printed : Bytes
   pub named : List Span
+  pub variables : List Bytes
+  pub symbols : List Bytes
+
+abbrev refusal : Outcome → Result
+refusal o = record { reading = o; printed = []; named = []; variables = []; symbols = [] }
 
 abbrev pub outcome : Sample → Result
-outcome (accepts s r) = record { reading = readingOf s; printed = text (r .declared) (r .written); named = spans (r .declared) }
-outcome (refuses s n p) = record { reading = readingOf s; printed = []; named = [] }
+outcome (accepts s r) =
+    record {
+      reading = readingOf s;
+      printed = text (r .declared) (r .written);
+      named = spans (r .declared);
+      variables = map (bytesAt s) (r .variables);
+      symbols = map (bytesAt s) (r .symbols);
+    }
+outcome (refuses s n p) = refusal (readingOf s)
 
 abbrev pub wanted : Sample → Result
 wanted (accepts s r) =
@@ -41,8 +54,10 @@ wanted (accepts s r) =
       reading = record { number = 0; place = 0; table = table; tree = r .tree };
       printed = s;
       named = r .variables ++ r .symbols;
+      variables = r .declared .variables;
+      symbols = symbolNames (r .declared);
     }
-wanted (refuses s n p) = record { reading = refused (fail n p); printed = []; named = [] }
+wanted (refuses s n p) = refusal (refused (fail n p))
 
 abbrev line : String → ℕ → List Place → SymbolLine
 line w k ps = record { name = ascii w; kind = k; places = ps }
