@@ -82,9 +82,9 @@ abbrev behind : ℕ → Regex
 behind zero = lit 0
 behind (suc n) = cat (lit 0) (behind n)
 
--- B1
-unfoldable pub b1 : Sample
-b1 =
+-- B1; and a book with four variables, a name of 12 bytes, KIND 255, `_` and a variable twice among four arguments, each sign of a pattern
+unfoldable pub books : List Sample
+books =
     accepts (ascii "vars d s\nsym load 1 d s\nsym drop 2 d\nsym clean 3 d\nmatch load drop+\n")
     (record {
       declared = record {
@@ -96,11 +96,7 @@ b1 =
       symbols = span 13 4 ∷ span 28 4 ∷ span 41 5 ∷ [];
       tree = cat (lit 0) (plus (lit 1));
     })
-
--- four variables, a name of 12 bytes, KIND 255, `_` and a variable twice among four arguments, each sign of a pattern
-unfoldable pub full : Sample
-full =
-    accepts (ascii "vars a b c d\nsym abcdefghijk9 255 a a _ b\nsym e 10 c d\nmatch  (e | abcdefghijk9)?* abcdefghijk9 e+ \n")
+    ∷ accepts (ascii "vars a b c d\nsym abcdefghijk9 255 a a _ b\nsym e 10 c d\nmatch  (e | abcdefghijk9)?* abcdefghijk9 e+ \n")
     (record {
       declared = record {
         variables = ascii "a" ∷ ascii "b" ∷ ascii "c" ∷ ascii "d" ∷ [];
@@ -111,21 +107,6 @@ full =
       symbols = span 17 12 ∷ span 46 1 ∷ [];
       tree = cat (star (opt (alt (lit 1) (lit 0)))) (cat (lit 0) (plus (lit 1)));
     })
-
--- "At most 31 symbol occurrences, at most 16 parentheses open together."
-unfoldable pub pattern : List Sample
-pattern =
-    accepts (oneText (times 31 "a ")) (one (times 31 "a ") (behind 30))
-    ∷ refuses (oneText (times 32 "a ")) 3 81
-    ∷ accepts (oneText (times 16 "(" ++ (ascii "a" ++ times 16 ")"))) (one (times 16 "(" ++ (ascii "a" ++ times 16 ")")) (lit 0))
-    ∷ refuses (oneText (times 17 "(" ++ (ascii "a" ++ times 17 ")"))) 3 35
-    ∷ refuses (oneText (ascii "a |")) 6 22
-    ∷ refuses (oneText (ascii "(a")) 6 21
-    ∷ refuses (oneText (ascii "a b")) 5 21
-    ∷ refuses (oneText (ascii "abcdefghijklm")) 3 19
-    -- "No word of the pattern may be empty, and each word must contain, for each variable, a symbol that binds it."
-    ∷ refuses (oneText (ascii " a*")) 7 20
-    ∷ refuses (ascii "vars d s\nsym a 1 d\nmatch a\n") 8 25
     ∷ []
 
 -- the lines before the pattern, and the end
@@ -148,6 +129,31 @@ lines =
     ∷ refuses (ascii "vars\nsym a 1\nmatch a\n\n") 2 21
     ∷ []
 
+-- patterns; "No word of the pattern may be empty, and each word must contain, for each variable, a symbol that binds it."
+unfoldable pub patterns : List Sample
+patterns =
+    refuses (oneText (ascii "a |")) 6 22
+    ∷ refuses (oneText (ascii "(a")) 6 21
+    ∷ refuses (oneText (ascii "a b")) 5 21
+    ∷ refuses (oneText (ascii "abcdefghijklm")) 3 19
+    ∷ refuses (oneText (ascii " a*")) 7 20
+    ∷ refuses (ascii "vars d s\nsym a 1 d\nmatch a\n") 8 25
+    ∷ []
+
+-- "At most 31 symbol occurrences"
+unfoldable pub many : List Sample
+many =
+    accepts (oneText (times 31 "a ")) (one (times 31 "a ") (behind 30))
+    ∷ refuses (oneText (times 32 "a ")) 3 81
+    ∷ []
+
+-- "at most 16 parentheses open together"
+unfoldable pub deep : List Sample
+deep =
+    accepts (oneText (times 16 "(" ++ (ascii "a" ++ times 16 ")"))) (one (times 16 "(" ++ (ascii "a" ++ times 16 ")")) (lit 0))
+    ∷ refuses (oneText (times 17 "(" ++ (ascii "a" ++ times 17 ")"))) 3 35
+    ∷ []
+
 -- "A book is ASCII text, at most 4,096 bytes."
 unfoldable pub long : List Sample
 long =
@@ -155,6 +161,5 @@ long =
     ∷ refuses (oneText (ascii "a" ++ replicate 4076 space)) 1 4096
     ∷ []
 
-unfoldable pub table : List Sample
-unfolding b1 full pattern lines long
-table = b1 ∷ full ∷ pattern ++ (lines ++ long)
+abbrev pub table : List Sample
+table = books ++ (lines ++ (patterns ++ (many ++ (deep ++ long))))
