@@ -17,10 +17,11 @@ use Rattle.pattern.specs.Positions as Positions
 use Rattle.pattern.proofs.Words as Words
 use Rattle.meaning.specs.Book.{Proper}
 use Rattle.meaning.proofs.ProperTest.{bit-boundIn, all-below}
-use Rattle.form.specs.Text.{Bytes, Declarations, SymbolLine, header, symbolOf, tracematchOf, spans}
+use Rattle.form.specs.Text.{Bytes, matchWord, Declarations, SymbolLine, header, symbolOf, tracematchOf, spans}
 use Rattle.form.specs.Tokens.{Token}
 use Rattle.form.specs.Phrase.{Phrase, Level, symbol, group, plain, starred, plussed, optional, last, then, only, or}
-use Rattle.form.specs.Form.{Shape, Form, symbolNames, allNames, binds, textLimit}
+use Rattle.form.specs.Limits.{textLimit}
+use Rattle.form.specs.Form.{Shape, Form, symbolNames, allNames, binds}
 use Rattle.form.specs.Scan.{run, isSpace}
 use Rattle.form.specs.Lines.{noTable, bytesAt, declaredTable}
 use Rattle.form.specs.Reading.{variablesOf, readingOf}
@@ -193,7 +194,7 @@ refused-empty s h = known s .blank h
 
 -- "7, then 8, after everything, placed at the pattern's first token": behind the lines, `match`, a space and the spaces that follow
 pub words-place : (s : Bytes) (d : Declarations) (r : Regex) (f : Shape s d r) → (readingOf s .number ≡ 7) ⊎ (readingOf s .number ≡ 8)
-    → readingOf s .place ≡ length (header d) + 6 + run isSpace (f .written)
+    → readingOf s .place ≡ length (header d) + (length matchWord + 1) + run isSpace (f .written)
 words-place s d r f h =
     let n : 7 ≤ readingOf s .number = ⊎-elim (λ e. omega arith) (λ e. omega arith) h in
     words-first s (shape-found s d r f .whole) n ∙ shape-first s d r f
