@@ -73,9 +73,13 @@ abbrev pub value : ℕ → Bytes → ℕ
 value n [] = n
 value n (b ∷ l) = value (n * 10 + (b - code "0")) l
 
+-- as many digits as `kindLimit` has
+abbrev pub kindDigits : ℕ
+kindDigits = 3
+
 -- "KIND is 1 to 255 without leading zeros": its value, or 0 where the word from p to e is no such number
 unfoldable pub kindOf : Bytes → (p e : ℕ) → ℕ
 kindOf s p e =
     let w = part s p e in
     let n = value 0 w in
-    cond (leb (e - p) 3 && all isDigit w && not (eqb (at s p) (code "0"))) (cond (leb n kindLimit) n 0) 0
+    cond (leb (e - p) kindDigits && all isDigit w && not (eqb (at s p) (code "0"))) (cond (leb n kindLimit) n 0) 0
