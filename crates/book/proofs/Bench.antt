@@ -22,7 +22,8 @@ use Rattle.meaning.specs.Book.{soundSymbol}
 use Rattle.meaning.proofs.Counts.{begin-count, end-count}
 use Rattle.meaning.proofs.Kept.{proper-sound}
 use Rattle.form.specs.Text.{Bytes, isName, SymbolLine, Declarations, header, tracematchOf, Span, variableSpans, symbolSpans, spans}
-use Rattle.form.specs.Form.{Shape, Form, symbolNames, allNames, binds, textLimit}
+use Rattle.form.specs.Limits.{textLimit}
+use Rattle.form.specs.Form.{Shape, Form, symbolNames, allNames, binds}
 use Rattle.form.specs.Scan.{run, isSpace}
 use Rattle.form.specs.Lines.{bytesAt, declaredTable}
 use Rattle.form.specs.Reading.{Outcome, readingOf}

@@ -24,7 +24,8 @@ use Rattle.meaning.specs.Runs as Runs
 use Rattle.meaning.proofs.Kept.{kept, proper-sound, state-after}
 use Rattle.meaning.proofs.Bound.{none-left-free}
 use Rattle.form.specs.Text.{Bytes, Declarations, tracematchOf}
-use Rattle.form.specs.Form.{Form, textLimit}
+use Rattle.form.specs.Limits.{textLimit}
+use Rattle.form.specs.Form.{Form}
 use Rattle.form.proofs.Accepted.{form-proper}
 use Rattle.form.specs.Lines.{declaredTable}
 use Rattle.table.specs.Tables.{placeOf, symbolOf, tableOf}

@@ -141,7 +141,7 @@ fn argument(p: Place, kind: u32, x: u64) -> Place {
     }
 }
 
-// What no count reaches filled with x: names (which no event call reads), symbols, their places, positions.
+// What no count reaches filled with x: names, symbols, their places, positions.
 pub fn spare(b: Book, x: u64) -> Book {
     let short = amounts::short(x);
     let p = Place {
@@ -152,7 +152,8 @@ pub fn spare(b: Book, x: u64) -> Book {
         start: x as usize,
         size: x as usize,
     };
-    let names = [n; 20];
+    let names = b.names;
+    let more_names = named(names, n);
     let occurrences = b.occurrences;
     let more_occurrences = words(occurrences, short);
     let follows = b.follows;
@@ -160,7 +161,7 @@ pub fn spare(b: Book, x: u64) -> Book {
     let table = b.table;
     let more_table = symbols(table, p, x);
     let mut r = b;
-    r.names = names;
+    r.names = more_names;
     r.occurrences = more_occurrences;
     r.follows = more_follows;
     r.table = more_table;
@@ -171,6 +172,22 @@ fn words(a: [u32; 31], x: u32) -> [u32; 31] {
     let mut r = [x; 31];
     r[0] = a[0];
     r[1] = a[1];
+    r
+}
+
+// The names of the two variables and the three symbols are judged.
+fn named(a: [Name; 20], n: Name) -> [Name; 20] {
+    let first = a[0];
+    let second = a[1];
+    let third = a[2];
+    let fourth = a[3];
+    let fifth = a[4];
+    let mut r = [n; 20];
+    r[0] = first;
+    r[1] = second;
+    r[2] = third;
+    r[3] = fourth;
+    r[4] = fifth;
     r
 }
 

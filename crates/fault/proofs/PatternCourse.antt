@@ -16,7 +16,7 @@ use Rattle.laws.proofs.Lists.{or-true-split, or-false-split, either}
 use Rattle.pattern.specs.Regex.{Regex, cat, alt, star, plus, opt}
 use Rattle.pattern.specs.Positions.{size}
 use Rattle.form.specs.Text.{Bytes, space, lf, isLower, Span}
-use Rattle.form.specs.Form.{textLimit}
+use Rattle.form.specs.Limits.{textLimit}
 use Rattle.form.specs.Phrase.{opening, closing, bar, asterisk, plusSign, question}
 use Rattle.form.specs.Scan.{fail, at, pastEnd, part, spacesEnd, nameEnd}
 use Rattle.form.specs.Lines.{indexOf}

@@ -11,7 +11,7 @@ use lib.ListN.{length}
 use Rattle.laws.proofs.Lists.{either}
 use Rattle.pattern.specs.Regex.{nullable}
 use Rattle.form.specs.Text.{Bytes, isBytes, space}
-use Rattle.form.specs.Form.{textLimit}
+use Rattle.form.specs.Limits.{textLimit}
 use Rattle.form.specs.Scan.{at}
 use Rattle.form.specs.Lines.{linesOf}
 use Rattle.form.specs.Parse.{Parsed}

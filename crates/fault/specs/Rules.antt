@@ -9,7 +9,8 @@ use lib.ListN.{length}
 use Rattle.laws.specs.Lists.{any}
 use Rattle.pattern.specs.Regex.{Regex, In}
 use Rattle.form.specs.Text.{Bytes, Declarations, header}
-use Rattle.form.specs.Form.{Shape, binds, textLimit}
+use Rattle.form.specs.Limits.{textLimit}
+use Rattle.form.specs.Form.{Shape, binds}
 use Rattle.form.specs.Scan.{run, isSpace}
 use Rattle.fault.specs.Fault.{Least, NoFault}
 

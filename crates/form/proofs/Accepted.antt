@@ -2,7 +2,7 @@
 -- hands back), `unique` (a text has at most one list of declarations and one tree), `seven`, `eight`, and where refusals stand.
 use mathlib.Core.Path.{_≡_, refl, sym, ap, ap₂, _∙_}
 use mathlib.Core.Bool.{Bool, true, false, true≢false, not-eq-not}
-use mathlib.Core.List.{List, [], _∷_, _++_, map, map-append, nil≢cons}
+use mathlib.Core.List.{List, [], _∷_, _++_, map, map-append, nil≢cons, List·Memᴰ}
 use mathlib.Core.Logic.{_↔_, _⊎_, inl, inr, ⊎-elim, Iff·rfl}
 use Prim.Native.Nat.{ℕ, _+_, _≤_, _<_}
 use native.Mathlib.Omega.{arith}
@@ -11,19 +11,22 @@ use lib.Dec.{ltb}
 use lib.ListN.{length, length-map}
 use Rattle.laws.specs.Bits.{bit}
 use Rattle.laws.specs.Lists.{any, all, numbers}
-use Rattle.laws.proofs.Lists.{all-append, all-map, all-found, mem-numbers}
+use Rattle.laws.proofs.Lists.{all-append, all-map, all-found, mem-numbers, map-at}
 use Rattle.pattern.specs.Regex.{Regex, lit, In, nullable, boundBy}
 use Rattle.pattern.specs.Positions as Positions
 use Rattle.pattern.proofs.Words as Words
 use Rattle.meaning.specs.Book.{Proper}
 use Rattle.meaning.proofs.ProperTest.{bit-boundIn, all-below}
-use Rattle.form.specs.Text.{Bytes, Declarations, SymbolLine, header, symbolOf, tracematchOf, spans}
+use Rattle.form.specs.Text.{Bytes, matchWord, Declarations, SymbolLine, header, symbolOf, tracematchOf, spans}
 use Rattle.form.specs.Tokens.{Token}
 use Rattle.form.specs.Phrase.{Phrase, Level, symbol, group, plain, starred, plussed, optional, last, then, only, or}
-use Rattle.form.specs.Form.{Shape, Form, allNames, binds, textLimit}
+use Rattle.form.specs.Limits.{textLimit}
+use Rattle.form.specs.Form.{Shape, Form, symbolNames, allNames, binds}
 use Rattle.form.specs.Scan.{run, isSpace}
 use Rattle.form.specs.Lines.{noTable, bytesAt, declaredTable}
 use Rattle.form.specs.Reading.{variablesOf, readingOf}
+use Rattle.form.specs.Samples.{Read, accepts, outcome, wanted, table}
+use Rattle.form.proofs.Samples.{sampled}
 use Rattle.form.proofs.Header.{header-names}
 use Rattle.form.proofs.Outcomes.{patternOf, bindsAll, answer, known, words-first}
 use Rattle.form.proofs.Ascii.{shape-ascii}
@@ -162,6 +165,19 @@ module _ (s : Bytes) where
         by-words d r g ∙ rw (flagged, masked),
   )
 
+-- the accepted texts of the table are of the stated form, with the declarations and the tree that stand there
+pub samples-form : (s : Bytes) (x : Read) → List·Memᴰ (accepts s x) table → Form s (x .declared) (x .tree)
+samples-form s x m =
+    let o : outcome (accepts s x) ≡ wanted (accepts s x) = map-at outcome wanted sampled m in
+    let (d, r, f) = accepted s .0 (ap (λ a. a .reading .number) o) in
+    let e = sym (fields s d r f) ∙ ap (λ a. a .reading) o in
+    let n = header-names s d (shape-found s d r (f .shape) .header) in
+    let variables : d .variables ≡ x .declared .variables = sym (n .0) ∙ ap (λ a. map (bytesAt s) (a .table .variables)) e ∙ ap (λ a. a .variables) o in
+    let symbols : symbolNames d ≡ symbolNames (x .declared) = sym (n .1) ∙ ap (λ a. map (bytesAt s) (a .table .symbols)) e ∙ ap (λ a. a .symbols) o in
+    let lines : d .symbols ≡ x .declared .symbols = same-lines _ _ symbols (ap (λ a. a .table .table) e) in
+    let same : d ≡ x .declared = λ i. record { variables = variables i; symbols = lines i } in
+    rw (same, ap (λ a. a .tree) e) at f
+
 -- refusals, of any list of numbers
 pub place-inside : (s : Bytes) → readingOf s .place ≤ length s
 place-inside s = known s .place
@@ -178,7 +194,7 @@ refused-empty s h = known s .blank h
 
 -- "7, then 8, after everything, placed at the pattern's first token": behind the lines, `match`, a space and the spaces that follow
 pub words-place : (s : Bytes) (d : Declarations) (r : Regex) (f : Shape s d r) → (readingOf s .number ≡ 7) ⊎ (readingOf s .number ≡ 8)
-    → readingOf s .place ≡ length (header d) + 6 + run isSpace (f .written)
+    → readingOf s .place ≡ length (header d) + (length matchWord + 1) + run isSpace (f .written)
 words-place s d r f h =
     let n : 7 ≤ readingOf s .number = ⊎-elim (λ e. omega arith) (λ e. omega arith) h in
     words-first s (shape-found s d r f .whole) n ∙ shape-first s d r f

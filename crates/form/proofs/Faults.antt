@@ -18,7 +18,8 @@ use Rattle.form.specs.Phrase.{opening, closing, bar, asterisk, plusSign,
 use Rattle.form.specs.Scan.{Step, fail, at, pastEnd, spacesEnd, wordEnd, nameEnd, part, nextWord, nameFault}
 use Rattle.form.specs.Lines.{indexOf, Table, declareFault, Variables, variablesFrom, argumentFault, Arguments, argumentsFrom}
 use Rattle.form.specs.Lines.{wantWord, SymbolRead, kindFrom, symbolFrom, noTable, Lines, linesFrom, linesOf}
-use Rattle.form.specs.Parse.{Parsed, failed, postfixOn, itemOf, occurrenceLimit, nameAtom, unfit, closed, beginsItem, joined}
+use Rattle.pattern.specs.Positions.{occurrenceLimit}
+use Rattle.form.specs.Parse.{Parsed, failed, postfixOn, itemOf, nameAtom, unfit, closed, beginsItem, joined}
 use Rattle.form.specs.Parse.{alternationFrom, sequenceFrom, atomFrom, enough, patternFrom}
 use Rattle.form.specs.Reading.{lastLine}
 use Rattle.form.proofs.Scans.{spacesEnd-le, nameEnd-le, at-end}

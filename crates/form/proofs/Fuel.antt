@@ -13,11 +13,12 @@ use Rattle.pattern.specs.Regex.{Regex, cat, alt}
 use Rattle.pattern.specs.Positions.{size}
 use Rattle.form.specs.Text.{Bytes, isLower, Span, space}
 use Rattle.form.specs.Phrase.{opening, closing, bar, asterisk, plusSign, question}
-use Rattle.form.specs.Form.{textLimit}
+use Rattle.form.specs.Limits.{textLimit}
 use Rattle.form.specs.Scan.{at, pastEnd, fail, spacesEnd, nameEnd, part}
 use Rattle.form.specs.Lines.{indexOf}
 use Rattle.form.specs.Parse.{Parsed, failed, itemOf, nameAtom, closed, unfit, beginsItem, joined, enough, alternationFrom, sequenceFrom, atomFrom}
-use Rattle.form.specs.Parse.{postfixOn, occurrenceLimit}
+use Rattle.pattern.specs.Positions.{occurrenceLimit}
+use Rattle.form.specs.Parse.{postfixOn}
 use Rattle.form.proofs.Scans.{spacesEnd-le, spacesEnd-ge, nameEnd-le, nameEnd-gt}
 use Rattle.form.proofs.Faults.{before-end}
 

@@ -10,7 +10,7 @@ use lib.ListN.{length}
 use Rattle.laws.proofs.Lists.{and-true-split, either}
 use Rattle.pattern.specs.Regex.{lit, nullable, boundBy}
 use Rattle.form.specs.Text.{Bytes, space}
-use Rattle.form.specs.Form.{textLimit}
+use Rattle.form.specs.Limits.{textLimit}
 use Rattle.form.specs.Scan.{Step, fail, at, spacesEnd}
 use Rattle.form.specs.Lines.{noTable, linesOf}
 use Rattle.form.specs.Parse.{Parsed, failed, patternFrom}

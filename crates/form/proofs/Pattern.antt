@@ -17,7 +17,8 @@ use Rattle.pattern.specs.Positions.{size}
 use Rattle.form.specs.Text.{Bytes, lf, isName, Span}
 use Rattle.form.specs.Tokens.{sign, tokens}
 use Rattle.form.specs.Phrase.{Phrase, alternation}
-use Rattle.form.specs.Form.{distinct, openLimit, textLimit}
+use Rattle.form.specs.Limits.{openLimit, textLimit}
+use Rattle.form.specs.Form.{distinct}
 use Rattle.form.specs.Scan.{go, fail, at, pastEnd, spacesEnd, part}
 use Rattle.form.specs.Lines.{bytesAt}
 use Rattle.form.specs.Parse.{Parsed, failed, enough, patternFrom}

@@ -8,10 +8,11 @@ use lib.ListN.{length, getD}
 use Rattle.laws.specs.Lists.{any, all}
 use Rattle.laws.specs.Order.{isSame, lex}
 use Rattle.pattern.specs.Regex.{Regex, In}
-use Rattle.pattern.specs.Positions.{size}
+use Rattle.pattern.specs.Positions.{size, occurrenceLimit}
 use Rattle.meaning.specs.Meaning.{noSymbol}
 use Rattle.meaning.specs.Book as Book
 use Rattle.meaning.specs.Book.{soundSymbol}
+use Rattle.form.specs.Limits.{textLimit, variableLimit, symbolLimit, openLimit}
 use Rattle.form.specs.Text.{Bytes, lf, isName, Declarations, text, symbolOf}
 use Rattle.form.specs.Tokens.{tokens}
 use Rattle.form.specs.Phrase.{Phrase, alternation}
@@ -36,14 +37,6 @@ allNames d = d .variables ++ symbolNames d
 abbrev pub binds : Declarations → (v a : ℕ) → Bool
 binds d v a = any (Book.binds v) (getD (map symbolOf (d .symbols)) a noSymbol .places)
 
--- "at most 16 parentheses open together"
-abbrev pub openLimit : ℕ
-openLimit = 16
-
--- "A book is ASCII text, at most 4,096 bytes."
-abbrev pub textLimit : ℕ
-textLimit = 4096
-
 -- The text s declares d and writes the pattern r, within the limits: all of "The book" but its last sentence on words.
 pub record Shape (s : Bytes) (d : Declarations) (r : Regex) : Type 0 where
   pub short : length s ≤ textLimit
@@ -54,12 +47,12 @@ pub record Shape (s : Bytes) (d : Declarations) (r : Regex) : Type 0 where
   pub named : all isName (allNames d) ≡ true
   pub distinct : distinct (allNames d) ≡ true
   -- "0 to 4 variable names", "1 to 16 lines", kinds, counts of arguments and their variables
-  pub fewVariables : length (d .variables) ≤ 4
+  pub fewVariables : length (d .variables) ≤ variableLimit
   pub someSymbols : 1 ≤ length (d .symbols)
-  pub fewSymbols : length (d .symbols) ≤ 16
+  pub fewSymbols : length (d .symbols) ≤ symbolLimit
   pub symbols : all (λ l. soundSymbol (length (d .variables)) (symbolOf l)) (d .symbols) ≡ true
   pub phrase : Phrase (symbolNames d) alternation openLimit (tokens written) r
-  pub occurrences : size r ≤ 31
+  pub occurrences : size r ≤ occurrenceLimit
 
 -- The same with the last sentence: "No word of the pattern may be empty, and each word must contain, for each variable, a
 -- symbol that binds it."

@@ -6,6 +6,7 @@ use Prim.Native.Nat.{ℕ, zero, suc, _+_, _-_}
 use lib.Dec.{eqb, ltb}
 use lib.ListN.{length}
 use Rattle.meaning.specs.Events.{Place, ignored, names, Symbol}
+use Rattle.form.specs.Limits.{variableLimit, symbolLimit, parameterLimit}
 use Rattle.form.specs.Text.{Bytes, symWord, matchWord, varsWord, ignoredWord, Declarations, symbolOf, varsLine, Span, variableSpans, symbolSpans}
 use Rattle.form.specs.Form.{sameWord}
 use Rattle.form.specs.Scan.{Step, go, fail, part, wordEnd, nextWord, nameFault, kindOf}
@@ -110,7 +111,7 @@ kindFrom s xs x p =
     let k = wantWord s p in
     let e = wordEnd s (k .place) in
     let n = kindOf s (k .place) e in
-    let r = argumentsFrom s xs 4 [] e in
+    let r = argumentsFrom s xs parameterLimit [] e in
     let whole : SymbolRead = record { step = r .step; name = x; symbol = record { kind = n; places = r .places } } in
     let some = cond (eqb (r .step .fault) 0) whole (noSymbolRead (r .step)) in
     let kinded = cond (eqb n 0) (noSymbolRead (fail 2 (k .place))) some in
@@ -158,8 +159,8 @@ linesFrom s (suc room) t p =
 unfoldable pub linesOf : Bytes → Lines
 linesOf s =
     let e = wordEnd s 0 in
-    let v = variablesFrom s 4 [] e in
-    let rest = linesFrom s 16 (record { variables = v .spans; symbols = []; table = [] }) (v .step .place) in
+    let v = variablesFrom s variableLimit [] e in
+    let rest = linesFrom s symbolLimit (record { variables = v .spans; symbols = []; table = [] }) (v .step .place) in
     let lines = cond (eqb (v .step .fault) 0) rest (record { step = v .step; table = noTable }) in
     cond (sameWord (part s 0 e) varsWord) lines (record { step = fail 2 0; table = noTable })
 
@@ -167,7 +168,7 @@ linesOf s =
 abbrev pub declaredTable : Declarations → Table
 declaredTable d =
     record {
-      variables = variableSpans 5 (d .variables);
+      variables = variableSpans (length varsWord + 1) (d .variables);
       symbols = symbolSpans (length (varsLine (d .variables))) (d .variables) (d .symbols);
       table = map symbolOf (d .symbols);
     }

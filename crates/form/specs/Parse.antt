@@ -6,7 +6,8 @@ use Prim.Native.Nat.{ℕ, zero, suc, _+_, _-_, _*_}
 use lib.Dec.{eqb, leb, ltb}
 use lib.ListN.{length, drop}
 use Rattle.pattern.specs.Regex.{Regex, lit, cat, alt, star, plus, opt}
-use Rattle.pattern.specs.Positions.{size}
+use Rattle.pattern.specs.Positions.{size, occurrenceLimit}
+use Rattle.form.specs.Limits.{textLimit, nameLimit, openLimit}
 use Rattle.form.specs.Text.{Bytes, space, isLower, Span}
 use Rattle.form.specs.Phrase.{opening, closing, bar, asterisk, plusSign, question}
 use Rattle.form.specs.Scan.{Step, go, fail, at, pastEnd, spacesEnd, nameEnd, part}
@@ -34,17 +35,13 @@ postfixOn (b ∷ l) here done r =
 unfoldable pub itemOf : Bytes → Parsed → Parsed
 itemOf s a = let p = a .step .place in cond (eqb (a .step .fault) 0) (postfixOn (drop p s) p p (a .tree)) a
 
--- "At most 31 symbol occurrences"
-abbrev pub occurrenceLimit : ℕ
-occurrenceLimit = 31
-
--- a name in a pattern, from q on: 3 where it is over 12 bytes or the 32nd occurrence, 5 where it is no symbol's
+-- a name in a pattern, from q on: 3 where it is too long or one occurrence too many, 5 where it is no symbol's
 unfoldable pub nameAtom : Bytes → List Span → (used q : ℕ) → Parsed
 nameAtom s symbols used q =
     let e = nameEnd s q in
     let a = indexOf s symbols (part s q e) in
     let known = cond (ltb a (length symbols)) (record { step = go e; tree = lit a }) (failed (fail 5 q)) in
-    cond (ltb 12 (e - q) || leb occurrenceLimit used) (failed (fail 3 q)) known
+    cond (ltb nameLimit (e - q) || leb occurrenceLimit used) (failed (fail 3 q)) known
 
 -- a token that cannot stand at q: "pattern out of form"; at the book's end the LF is missing, which is 2
 abbrev pub unfit : Bytes → ℕ → Step
@@ -97,10 +94,10 @@ module _ (s : Bytes) (symbols : List Span) where
         let other = cond (eqb (at s q) opening) group (failed (unfit s q)) in
         cond (isLower (at s q)) name other
 
--- more calls than a text of 4,096 bytes can take, from p on with d parentheses left to open
+-- more calls than a text within its limit can take, from p on with d parentheses left to open: three levels at each byte
 abbrev pub enough : (d p : ℕ) → ℕ
-enough d p = d * 12294 + (4097 - p) * 3
+enough d p = d * ((textLimit + 2) * 3) + (textLimit + 1 - p) * 3
 
 -- the pattern from p on, up to the LF or what stands in its place
 unfoldable pub patternFrom : Bytes → List Span → ℕ → Parsed
-patternFrom s symbols p = alternationFrom s symbols (enough 16 p + 3) 16 0 p
+patternFrom s symbols p = alternationFrom s symbols (enough openLimit p + 3) openLimit 0 p

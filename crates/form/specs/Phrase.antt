@@ -2,29 +2,30 @@
 -- item is an atom with any number of `*`, `+`, `?` after it; an atom is a name or an alternation in parentheses."
 use mathlib.Core.List.{List, [], _∷_, _++_}
 use Prim.Native.Nat.{ℕ, suc, _<_}
+use Prim.Native.Char.{code}
 use lib.ListN.{length, getD}
 use Rattle.pattern.specs.Regex.{Regex, lit, cat, alt, star, plus, opt}
 use Rattle.form.specs.Text.{Bytes}
 use Rattle.form.specs.Tokens.{Token, name, sign}
 
--- ( ) | * + ?
+-- the signs of a pattern
 abbrev pub opening : ℕ
-opening = 40
+opening = code "("
 
 abbrev pub closing : ℕ
-closing = 41
+closing = code ")"
 
 abbrev pub bar : ℕ
-bar = 124
+bar = code "|"
 
 abbrev pub asterisk : ℕ
-asterisk = 42
+asterisk = code "*"
 
 abbrev pub plusSign : ℕ
-plusSign = 43
+plusSign = code "+"
 
 abbrev pub question : ℕ
-question = 63
+question = code "?"
 
 pub data Level : Type 0 where
   atom item sequence alternation : Level

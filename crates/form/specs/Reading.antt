@@ -12,8 +12,8 @@ use Rattle.pattern.specs.Regex.{Regex, nullable, boundBy}
 use Rattle.meaning.specs.Events.{Symbol}
 use Rattle.meaning.specs.Meaning.{Tracematch, noSymbol}
 use Rattle.meaning.specs.Book.{boundIn}
+use Rattle.form.specs.Limits.{textLimit}
 use Rattle.form.specs.Text.{Bytes, space, lf}
-use Rattle.form.specs.Form.{textLimit}
 use Rattle.form.specs.Scan.{Step, go, fail, at, spacesEnd}
 use Rattle.form.specs.Lines.{Table, noTable, linesOf}
 use Rattle.form.specs.Parse.{Parsed, failed, unfit, patternFrom}

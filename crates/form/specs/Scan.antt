@@ -1,15 +1,18 @@
 -- Scanning: what stands at a place of a text, how far runs of spaces, words and names go, and the gap after a word.
--- Places count from 0; 256, which is no byte, stands for what lies past the end.
+-- Places count from 0.
 use mathlib.Core.Bool.{Bool, cond, not, _&&_, _||_}
 use mathlib.Core.List.{[], _∷_}
 use Prim.Native.Nat.{ℕ, suc, _+_, _-_, _*_}
+use Prim.Native.Char.{code}
 use lib.Dec.{eqb, leb}
 use lib.ListN.{getD, take, drop}
 use Rattle.laws.specs.Lists.{all}
-use Rattle.form.specs.Text.{Bytes, space, lf, isLower, isDigit, isNameByte}
+use Rattle.form.specs.Limits.{kindLimit, nameLimit}
+use Rattle.form.specs.Text.{Bytes, byteCount, space, lf, isLower, isDigit, isNameByte}
 
+-- what stands past the end: no byte
 abbrev pub pastEnd : ℕ
-pastEnd = 256
+pastEnd = byteCount
 
 abbrev pub at : Bytes → ℕ → ℕ
 at s p = getD s p pastEnd
@@ -61,18 +64,22 @@ nextWord s p =
     cond (eqb q p) (cond (eqb b lf) (go p) (fail 2 p))
     (cond (eqb b lf || eqb b pastEnd) (fail 2 p) (cond (eqb q (p + 1)) (go q) (fail 2 (p + 1))))
 
--- the fault of the word from p to e as a name: none, "out of form", or over 12 bytes
+-- the fault of the word from p to e as a name: none, "out of form", or above `nameLimit`
 unfoldable pub nameFault : Bytes → (p e : ℕ) → ℕ
-nameFault s p e = cond (eqb (nameEnd s p) e) (cond (leb (e - p) 12) 0 3) 2
+nameFault s p e = cond (eqb (nameEnd s p) e) (cond (leb (e - p) nameLimit) 0 3) 2
 
 -- the value of a word of digits
 abbrev pub value : ℕ → Bytes → ℕ
 value n [] = n
-value n (b ∷ l) = value (n * 10 + (b - 48)) l
+value n (b ∷ l) = value (n * 10 + (b - code "0")) l
+
+-- as many digits as `kindLimit` has
+abbrev pub kindDigits : ℕ
+kindDigits = 3
 
 -- "KIND is 1 to 255 without leading zeros": its value, or 0 where the word from p to e is no such number
 unfoldable pub kindOf : Bytes → (p e : ℕ) → ℕ
 kindOf s p e =
     let w = part s p e in
     let n = value 0 w in
-    cond (leb (e - p) 3 && all isDigit w && not (eqb (at s p) 48)) (cond (leb n 255) n 0) 0
+    cond (leb (e - p) kindDigits && all isDigit w && not (eqb (at s p) (code "0"))) (cond (leb n kindLimit) n 0) 0

@@ -1,7 +1,7 @@
 -- Declarations and the text that writes them: document 01, "The book". The pattern is written apart (Tokens, Phrase).
 use mathlib.Core.Bool.{Bool, false, cond, _&&_, _||_}
 use mathlib.Core.List.{List, [], _∷_, _++_, map}
-use Prim.Native.Nat.{ℕ, _+_, _/_, _%_}
+use Prim.Native.Nat.{ℕ, _+_, _-_, _/_, _%_}
 use Prim.Native.Char.{code}
 use Prim.Native.String.{String}
 use lib.Dec.{leb, ltb}
@@ -10,6 +10,7 @@ use Rattle.laws.specs.Lists.{all, gather}
 use Rattle.pattern.specs.Regex.{Regex}
 use Rattle.meaning.specs.Events.{Place, ignored, names, Symbol}
 use Rattle.meaning.specs.Meaning.{Tracematch}
+use Rattle.form.specs.Limits.{nameLimit}
 
 -- a text, a line, a word, a name: bytes
 abbrev pub Bytes : Type 0
@@ -20,12 +21,16 @@ abbrev pub ascii : String → Bytes
 ascii String.[] = []
 ascii (String._∷_ c s) = code c ∷ ascii s
 
+-- how many bytes there are
+abbrev pub byteCount : ℕ
+byteCount = 256
+
 -- every element is a byte, as it is in any lent text
 abbrev pub isBytes : Bytes → Bool
-isBytes s = all (λ b. ltb b 256) s
+isBytes s = all (λ b. ltb b byteCount) s
 
 abbrev pub space : ℕ
-space = 32
+space = code " "
 
 -- "Each line ends with LF (byte 10)."
 abbrev pub lf : ℕ
@@ -36,11 +41,11 @@ between low high b = leb low b && leb b high
 
 -- a to z
 abbrev pub isLower : ℕ → Bool
-isLower b = between 97 122 b
+isLower b = between (code "a") (code "z") b
 
 -- 0 to 9
 abbrev pub isDigit : ℕ → Bool
-isDigit b = between 48 57 b
+isDigit b = between (code "0") (code "9") b
 
 abbrev pub isNameByte : ℕ → Bool
 isNameByte b = isLower b || isDigit b
@@ -48,25 +53,25 @@ isNameByte b = isLower b || isDigit b
 -- "A name is a to z, then a to z or 0 to 9, 1 to 12 bytes"
 abbrev pub isName : Bytes → Bool
 isName [] = false
-isName (b ∷ w) = isLower b && all isNameByte w && leb (length w) 11
+isName (b ∷ w) = isLower b && all isNameByte w && leb (length w) (nameLimit - 1)
 
 -- the words of the format
 abbrev pub varsWord : Bytes
-varsWord = 118 ∷ 97 ∷ 114 ∷ 115 ∷ []
+varsWord = ascii "vars"
 
 abbrev pub symWord : Bytes
-symWord = 115 ∷ 121 ∷ 109 ∷ []
+symWord = ascii "sym"
 
 abbrev pub matchWord : Bytes
-matchWord = 109 ∷ 97 ∷ 116 ∷ 99 ∷ 104 ∷ []
+matchWord = ascii "match"
 
 -- `_` ("that argument is ignored")
 abbrev pub ignoredWord : Bytes
-ignoredWord = 95 ∷ []
+ignoredWord = ascii "_"
 
 -- the digit of a number below 10
 abbrev pub digit : ℕ → ℕ
-digit n = 48 + n
+digit n = code "0" + n
 
 -- a number below 1000 in decimal, without leading zeros
 unfoldable pub decimal : ℕ → Bytes
@@ -135,9 +140,9 @@ variableSpans p (w ∷ ws) = record { start = p; size = length w } ∷ variableS
 abbrev pub symbolSpans : ℕ → List Bytes → List SymbolLine → List Span
 symbolSpans p variables [] = []
 symbolSpans p variables (l ∷ ls) =
-    record { start = p + 4; size = length (l .name) } ∷ symbolSpans (p + length (symLine variables l)) variables ls
+    record { start = p + (length symWord + 1); size = length (l .name) } ∷ symbolSpans (p + length (symLine variables l)) variables ls
 
 -- the declaring places of all names: variables from 0, then symbols
 abbrev pub spans : Declarations → List Span
 spans d =
-    variableSpans 5 (d .variables) ++ symbolSpans (length (varsLine (d .variables))) (d .variables) (d .symbols)
+    variableSpans (length varsWord + 1) (d .variables) ++ symbolSpans (length (varsLine (d .variables))) (d .variables) (d .symbols)

@@ -4,6 +4,8 @@ use Prim.Native.Nat.{ℕ, suc, _≤_}
 use lib.Dec.{eqb}
 use lib.ListN.{length}
 use Rattle.pattern.specs.Regex.{Regex, star, plus, opt}
+use Rattle.pattern.specs.Positions.{occurrenceLimit}
+use Rattle.form.specs.Limits.{textLimit}
 use Rattle.form.specs.Text.{Bytes}
 use Rattle.form.specs.Phrase.{asterisk, plusSign, question}
 use Rattle.form.specs.Parse as Parse
@@ -30,7 +32,7 @@ signedTree b r = cond (eqb b asterisk) (star r) (cond (eqb b plusSign) (plus r) 
 
 -- what the readers of a pattern may count on
 pub record Readable (s : Bytes) (t : Table) (used p : ℕ) : Type 0 where
-  pub short : length s ≤ 4096
+  pub short : length s ≤ textLimit
   pub ready : Ready s t
-  pub few : used ≤ 31
+  pub few : used ≤ occurrenceLimit
   pub inText : p ≤ length s

@@ -7,12 +7,28 @@ ghost use mathlib.Core.Bool.{true};
 ghost use Prim.Native.Nat.{ℕ, _+_, _≤_};
 ghost use lib.ListN.{length};
 ghost use Rattle.pattern.specs.Regex.{Regex};
+ghost use Rattle.form.specs.Limits.{openLimit};
 ghost use Rattle.form.specs.Scan as Scan;
 ghost use Rattle.form.specs.Parse as Parse;
 ghost use Rattle.form.specs.Reading.{variablesOf};
 ghost use Rattle.table.specs.Tables.{viewTable};
 ghost use Rattle.piece.specs.Pieces.{pieceOf, noPiece};
 ghost use Rattle.grammar.specs.Results.{parsedOf, isSign, signedTree, Readable};
+
+const OPENING: usize = b'(' as usize;
+
+const CLOSING: usize = b')' as usize;
+
+const BAR: usize = b'|' as usize;
+
+const ASTERISK: usize = b'*' as usize;
+
+const PLUS_SIGN: usize = b'+' as usize;
+
+const QUESTION: usize = b'?' as usize;
+
+// "at most 16 parentheses open together"
+pub const DEPTH: usize = 16;
 
 // No fault, the place to go on from and the fragment; or a fault's number and its place.
 pub struct Parsed {
@@ -36,7 +52,7 @@ pub fn failed(fault: usize, place: usize) -> Parsed
 pub fn unfit(s: &[u8], q: usize) -> Parsed
     ensures { λ r. ⌜ r ≡ record { fault = Parse.unfit (now (s .entry)) q .fault; place = q; piece = noPiece } ⌝ }
 {
-    if text::peek(s, q) == 256 {
+    if text::peek(s, q) == text::PAST_END {
         return failed(2, q);
     }
     failed(6, q)
@@ -47,10 +63,10 @@ fn signed(x: Piece, b: usize) -> Piece
     requires { ⌜ isSign b ≡ true ⌝ }
     ensures { λ r. ⌜ ((vars : ℕ → ℕ) (a : Regex) (k : ℕ) → x ≡ pieceOf vars a k → r ≡ pieceOf vars (signedTree b a) k) ⌝ }
 {
-    if b == 42 {
+    if b == ASTERISK {
         return piece::star(x);
     }
-    if b == 43 {
+    if b == PLUS_SIGN {
         return piece::plus(x);
     }
     piece::optional(x)
@@ -68,9 +84,9 @@ fn item(s: &[u8], a: Parsed) -> Parsed
     let mut done = a.place;
     let mut x = a.piece;
     let mut b = text::peek(s, here);
-    while b == 32 || b == 42 || b == 43 || b == 63 {
+    while b == text::SPACE || b == ASTERISK || b == PLUS_SIGN || b == QUESTION {
         here += 1;
-        if b != 32 {
+        if b != text::SPACE {
             x = signed(x, b);
             done = here;
         }
@@ -89,10 +105,10 @@ fn name_atom(s: &[u8], t: Table, used: usize, q: usize) -> Parsed
     ensures { λ r. ⌜ r ≡ parsedOf (variablesOf (viewTable t .table)) used (Parse.nameAtom (now (s .entry)) (viewTable t .symbols) used q) ⌝ }
 {
     let e = text::name_end(s, q);
-    if 12 < e - q {
+    if text::NAME_LIMIT < e - q {
         return failed(3, q);
     }
-    if 31 <= used {
+    if piece::POSITIONS <= used {
         return failed(3, q);
     }
     let from = t.variables;
@@ -123,7 +139,7 @@ fn closed(s: &[u8], a: Parsed) -> Parsed
     }
     let p = a.place;
     let q = text::spaces_end(s, p);
-    if text::peek(s, q) == 41 {
+    if text::peek(s, q) == CLOSING {
         let x = a.piece;
         return Parsed {
             fault: 0,
@@ -136,7 +152,7 @@ fn closed(s: &[u8], a: Parsed) -> Parsed
 
 // Sequences divided by `|`.
 pub fn alternation(s: &[u8], t: Table, depth: usize, used: usize, p: usize) -> Parsed
-    requires { ⌜ Readable (now s) t used p × (depth ≤ 16) ⌝ }
+    requires { ⌜ Readable (now s) t used p × (depth ≤ openLimit) ⌝ }
     ensures { λ r. ⌜ r ≡ parsedOf (variablesOf (viewTable t .table)) used (Parse.alternationFrom (now (s .entry)) (viewTable t .symbols)
         (Parse.enough depth p + 3) depth used p) ⌝ }
 {
@@ -147,7 +163,7 @@ pub fn alternation(s: &[u8], t: Table, depth: usize, used: usize, p: usize) -> P
     let x = a.piece;
     let e = a.place;
     let q = text::spaces_end(s, e);
-    if text::peek(s, q) != 124 {
+    if text::peek(s, q) != BAR {
         return a;
     }
     let b = alternation(s, t, depth, used + x.size, q + 1);
@@ -165,7 +181,7 @@ pub fn alternation(s: &[u8], t: Table, depth: usize, used: usize, p: usize) -> P
 
 // One or more items.
 fn sequence(s: &[u8], t: Table, depth: usize, used: usize, p: usize) -> Parsed
-    requires { ⌜ Readable (now s) t used p × (depth ≤ 16) ⌝ }
+    requires { ⌜ Readable (now s) t used p × (depth ≤ openLimit) ⌝ }
     ensures { λ r. ⌜ r ≡ parsedOf (variablesOf (viewTable t .table)) used (Parse.sequenceFrom (now (s .entry)) (viewTable t .symbols)
         (Parse.enough depth p + 2) depth used p) ⌝ }
 {
@@ -198,12 +214,12 @@ fn begins_item(s: &[u8], p: usize) -> bool
 {
     let q = text::spaces_end(s, p);
     let c = text::peek(s, q);
-    text::is_lower(c) || c == 40
+    text::is_lower(c) || c == OPENING
 }
 
 // A name or an alternation in parentheses.
 fn atom(s: &[u8], t: Table, depth: usize, used: usize, p: usize) -> Parsed
-    requires { ⌜ Readable (now s) t used p × (depth ≤ 16) ⌝ }
+    requires { ⌜ Readable (now s) t used p × (depth ≤ openLimit) ⌝ }
     ensures { λ r. ⌜ r ≡ parsedOf (variablesOf (viewTable t .table)) used (Parse.atomFrom (now (s .entry)) (viewTable t .symbols)
         (Parse.enough depth p + 1) depth used p) ⌝ }
 {
@@ -212,7 +228,7 @@ fn atom(s: &[u8], t: Table, depth: usize, used: usize, p: usize) -> Parsed
     if text::is_lower(c) {
         return name_atom(s, t, used, q);
     }
-    if c != 40 {
+    if c != OPENING {
         return unfit(s, q);
     }
     if depth == 0 {

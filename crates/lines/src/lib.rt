@@ -7,6 +7,7 @@ ghost use mathlib.Core.Path.{_≡_};
 ghost use mathlib.Core.List.{map};
 ghost use Prim.Native.Nat.{_-_, _+_, _≤_};
 ghost use lib.ListN.{length, take};
+ghost use Rattle.form.specs.Limits.{variableLimit, symbolLimit, parameterLimit};
 ghost use Rattle.form.specs.Text.{ignoredWord, varsWord, symWord, matchWord};
 ghost use Rattle.form.specs.Form.{sameWord};
 ghost use Rattle.form.specs.Scan.{part, fail};
@@ -53,7 +54,7 @@ fn declare_fault(s: &[u8], t: Table, to: usize, p: usize, e: usize) -> usize
 // Variable names from p on.
 fn variables_from(s: &[u8], t: Table, p: usize) -> LinesRead
     requires { ⌜ Ready (now s) t × (t .count ≡ 0) × (p ≤ length (now s)) ⌝ }
-    ensures { λ r. ⌜ r ≡ variablesRead (Lines.variablesFrom (now (s .entry)) (4 - t .variables) (viewTable t .variables) p) ⌝ }
+    ensures { λ r. ⌜ r ≡ variablesRead (Lines.variablesFrom (now (s .entry)) (variableLimit - t .variables) (viewTable t .variables) p) ⌝ }
 {
     let n = text::next_word(s, p);
     let q = n.place;
@@ -72,7 +73,7 @@ fn variables_from(s: &[u8], t: Table, p: usize) -> LinesRead
         };
     }
     let count = t.variables;
-    if 4 <= count {
+    if table::VARIABLES <= count {
         return LinesRead {
             fault: 3,
             place: q,
@@ -102,7 +103,8 @@ fn is_ignored(s: &[u8], p: usize, e: usize) -> bool
     requires { ⌜ (p ≤ e) × (e ≤ length (now s)) ⌝ }
     ensures { λ r. ⌜ r ≡ sameWord (part (now (s .entry)) p e) ignoredWord ⌝ }
 {
-    text::same(s, p, e, b"_", 0, 1)
+    let word = b"_";
+    text::same(s, p, e, word, 0, word.len())
 }
 
 // The fault of the word from p to e as an argument, 0 where it has none.
@@ -144,8 +146,8 @@ fn argument_of(s: &[u8], t: Table, p: usize, e: usize) -> Place
 
 // Argument words from p on, behind those that y holds.
 fn arguments_from(s: &[u8], t: Table, y: Symbol, p: usize) -> ArgumentsRead
-    requires { ⌜ Ready (now s) t × (y ≡ symbolOf (viewSymbol y)) × (y .count ≤ 4) × (p ≤ length (now s)) ⌝ }
-    ensures { λ r. ⌜ r ≡ argumentsRead (y .kind) (Lines.argumentsFrom (now (s .entry)) (viewTable t .variables) (4 - y .count) (viewSymbol y .places) p) ⌝ }
+    requires { ⌜ Ready (now s) t × (y ≡ symbolOf (viewSymbol y)) × (y .count ≤ parameterLimit) × (p ≤ length (now s)) ⌝ }
+    ensures { λ r. ⌜ r ≡ argumentsRead (y .kind) (Lines.argumentsFrom (now (s .entry)) (viewTable t .variables) (parameterLimit - y .count) (viewSymbol y .places) p) ⌝ }
 {
     let n = text::next_word(s, p);
     let q = n.place;
@@ -164,7 +166,7 @@ fn arguments_from(s: &[u8], t: Table, y: Symbol, p: usize) -> ArgumentsRead
         };
     }
     let count = y.count;
-    if 4 <= count {
+    if table::PARAMETERS <= count {
         return ArgumentsRead {
             fault: 3,
             place: q,
@@ -259,27 +261,30 @@ fn is_match(s: &[u8], p: usize, e: usize) -> bool
     requires { ⌜ (p ≤ e) × (e ≤ length (now s)) ⌝ }
     ensures { λ r. ⌜ r ≡ sameWord (part (now (s .entry)) p e) matchWord ⌝ }
 {
-    text::same(s, p, e, b"match", 0, 5)
+    let word = b"match";
+    text::same(s, p, e, word, 0, word.len())
 }
 
 fn is_sym(s: &[u8], p: usize, e: usize) -> bool
     requires { ⌜ (p ≤ e) × (e ≤ length (now s)) ⌝ }
     ensures { λ r. ⌜ r ≡ sameWord (part (now (s .entry)) p e) symWord ⌝ }
 {
-    text::same(s, p, e, b"sym", 0, 3)
+    let word = b"sym";
+    text::same(s, p, e, word, 0, word.len())
 }
 
 fn is_vars(s: &[u8], p: usize, e: usize) -> bool
     requires { ⌜ (p ≤ e) × (e ≤ length (now s)) ⌝ }
     ensures { λ r. ⌜ r ≡ sameWord (part (now (s .entry)) p e) varsWord ⌝ }
 {
-    text::same(s, p, e, b"vars", 0, 4)
+    let word = b"vars";
+    text::same(s, p, e, word, 0, word.len())
 }
 
 // `sym` lines from p on, up to the word `match`, behind which the place to go on from lies.
 fn lines_from(s: &[u8], t: Table, p: usize) -> LinesRead
     requires { ⌜ Ready (now s) t × (p ≤ length (now s)) ⌝ }
-    ensures { λ r. ⌜ r ≡ linesRead (Lines.linesFrom (now (s .entry)) (16 - t .count) (viewTable t) p) ⌝ }
+    ensures { λ r. ⌜ r ≡ linesRead (Lines.linesFrom (now (s .entry)) (symbolLimit - t .count) (viewTable t) p) ⌝ }
 {
     let e = text::word_end(s, p);
     let count = t.count;
@@ -304,7 +309,7 @@ fn lines_from(s: &[u8], t: Table, p: usize) -> LinesRead
             table: t,
         };
     }
-    if 16 <= count {
+    if table::SYMBOLS <= count {
         return LinesRead {
             fault: 3,
             place: p,

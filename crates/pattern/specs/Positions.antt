@@ -9,6 +9,10 @@ use lib.Dec.{ltb}
 use Rattle.laws.specs.Bits.{bit, join, single}
 use Rattle.pattern.specs.Regex.{Regex, lit, cat, alt, star, plus, opt, nullable}
 
+-- "At most 31 symbol occurrences", "positions 1 to 31"
+abbrev pub occurrenceLimit : ℕ
+occurrenceLimit = 31
+
 -- how many occurrences r has
 abbrev pub size : Regex → ℕ
 size (lit a) = 1

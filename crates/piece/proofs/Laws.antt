@@ -17,7 +17,7 @@ use Rattle.laws.proofs.Lists.{getD-numbers}
 use Rattle.pattern.specs.Regex.{Regex, lit, cat, alt}
 use Rattle.pattern.specs.Positions.{size, symbolAt, beginning, ending, following, given}
 use Rattle.pattern.proofs.Masks.{Among, ending-among, following-among}
-use Rattle.piece.specs.Pieces.{places, symbolOr0}
+use Rattle.piece.specs.Pieces.{positions, symbolOr0}
 use Rattle.piece.proofs.Fills.{by-elements, by-position}
 
 -- a test that would refute something fails
@@ -114,12 +114,12 @@ pub is-linked : (follows : List ℕ) (ends begins : ℕ) {r : List ℕ}
 unfolding linkedOf
 is-linked follows ends begins e = e
 
-pub joined-places : (f g h : ℕ → ℕ) → ((p : ℕ) → join (f p) (g p) ≡ h p) → joinedOf (map f places) (map g places) ≡ map h places
+pub joined-positions : (f g h : ℕ → ℕ) → ((p : ℕ) → join (f p) (g p) ≡ h p) → joinedOf (map f positions) (map g positions) ≡ map h positions
 unfolding joinedOf
-joined-places f g h e = by-position h 31 _ (λ i m. ap₂ join (getD-numbers f 1 31 i 0 m) (getD-numbers g 1 31 i 0 m) ∙ e (1 + i))
+joined-positions f g h e = by-position h 31 _ (λ i m. ap₂ join (getD-numbers f 1 31 i 0 m) (getD-numbers g 1 31 i 0 m) ∙ e (1 + i))
 
-pub linked-places : (f h : ℕ → ℕ) (ends begins : ℕ) → ((p : ℕ) → join (f p) (given (bit p ends) begins) ≡ h p)
-    → linkedOf (map f places) ends begins ≡ map h places
+pub linked-positions : (f h : ℕ → ℕ) (ends begins : ℕ) → ((p : ℕ) → join (f p) (given (bit p ends) begins) ≡ h p)
+    → linkedOf (map f positions) ends begins ≡ map h positions
 unfolding linkedOf
-linked-places f h ends begins e =
+linked-positions f h ends begins e =
     by-position h 31 _ (λ i m. ap₂ (λ x y. join x (given (bit y ends) begins)) (getD-numbers f 1 31 i 0 m) (add-comm i 1) ∙ e (1 + i))

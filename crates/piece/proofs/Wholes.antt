@@ -6,9 +6,9 @@ use Prim.Native.Nat.{ℕ, _+_}
 use Rattle.laws.specs.Bits.{join, meet}
 use Rattle.pattern.specs.Regex.{Regex, cat, alt, star, plus, opt}
 use Rattle.pattern.specs.Positions.{size, beginning, ending, following, given}
-use Rattle.piece.specs.Pieces.{places, symbolOr0, pieceOf}
+use Rattle.piece.specs.Pieces.{positions, symbolOr0, pieceOf}
 use Rattle.piece.specs.declared.Piece.{Piece}
-use Rattle.piece.proofs.Laws.{joinedOf, linkedOf, joined-places, linked-places, cat-symbols, alt-symbols, cat-follows, alt-follows}
+use Rattle.piece.proofs.Laws.{joinedOf, linkedOf, joined-positions, linked-positions, cat-symbols, alt-symbols, cat-follows, alt-follows}
 
 unfoldable pub sequenceOf : (x y : Piece) → Piece
 sequenceOf x y =
@@ -66,20 +66,20 @@ module _ (vars : ℕ → ℕ) (a b : Regex) (k : ℕ) where
   pub sequence-whole : sequenceOf (pieceOf vars a k) (pieceOf vars b (k + size a)) ≡ pieceOf vars (cat a b) k
   unfolding sequenceOf pieceOf with-arrays
   sequence-whole =
-      ap₂ (with-arrays (pieceOf vars (cat a b) k)) (joined-places _ _ _ (cat-symbols a b k))
-      (ap (λ f. linkedOf f (ending a k) (beginning b (k + size a))) (joined-places (following a k) (following b (k + size a)) _ (λ p. refl))
-      ∙ linked-places _ _ _ _ (cat-follows a b k))
+      ap₂ (with-arrays (pieceOf vars (cat a b) k)) (joined-positions _ _ _ (cat-symbols a b k))
+      (ap (λ f. linkedOf f (ending a k) (beginning b (k + size a))) (joined-positions (following a k) (following b (k + size a)) _ (λ p. refl))
+      ∙ linked-positions _ _ _ _ (cat-follows a b k))
 
   pub either-whole : eitherOf (pieceOf vars a k) (pieceOf vars b (k + size a)) ≡ pieceOf vars (alt a b) k
   unfolding eitherOf pieceOf with-arrays
   either-whole =
-      ap₂ (with-arrays (pieceOf vars (alt a b) k)) (joined-places _ _ _ (alt-symbols a b k)) (joined-places _ _ _ (alt-follows a b k))
+      ap₂ (with-arrays (pieceOf vars (alt a b) k)) (joined-positions _ _ _ (alt-symbols a b k)) (joined-positions _ _ _ (alt-follows a b k))
 
 module _ (vars : ℕ → ℕ) (a : Regex) (k : ℕ) where
   pub plus-whole : plusOf (pieceOf vars a k) ≡ pieceOf vars (plus a) k
   unfolding plusOf pieceOf symbolOr0 with-arrays
   plus-whole =
-      ap (with-arrays (pieceOf vars (plus a) k) (map (symbolOr0 a k) places)) (linked-places (following a k) _ (ending a k) (beginning a k) (λ p. refl))
+      ap (with-arrays (pieceOf vars (plus a) k) (map (symbolOr0 a k) positions)) (linked-positions (following a k) _ (ending a k) (beginning a k) (λ p. refl))
 
   pub optional-whole : optionalOf (pieceOf vars a k) ≡ pieceOf vars (opt a) k
   unfolding optionalOf pieceOf symbolOr0

@@ -1,4 +1,4 @@
--- The fragment that stands for a regular expression: its masks, and for each of the positions 1 to 31 its symbol and the
+-- The fragment that stands for a regular expression: its masks, and for each of the positions that a pattern may have its symbol and the
 -- positions that follow it; 0 where the position is not one of the fragment's.
 use mathlib.Core.Bool.{false, cond, _&&_}
 use mathlib.Core.List.{List, map}
@@ -7,12 +7,12 @@ use lib.Dec.{leb, ltb}
 use lib.ListN.{replicate}
 use Rattle.laws.specs.Lists.{numbers}
 use Rattle.pattern.specs.Regex.{Regex, nullable, boundBy}
-use Rattle.pattern.specs.Positions.{size, symbolAt, beginning, ending, following}
+use Rattle.pattern.specs.Positions.{occurrenceLimit, size, symbolAt, beginning, ending, following}
 use Rattle.piece.specs.declared.Piece.{Piece}
 
 -- "positions 1 to 31"
-abbrev pub places : List ℕ
-places = numbers 1 31
+abbrev pub positions : List ℕ
+positions = numbers 1 occurrenceLimit
 
 -- the symbol of position p, 0 where p is none of r's
 unfoldable pub symbolOr0 : Regex → (k p : ℕ) → ℕ
@@ -27,10 +27,10 @@ pieceOf vars r k =
       begins = beginning r k;
       ends = ending r k;
       bound = boundBy vars r;
-      symbols = map (symbolOr0 r k) places;
-      follows = map (following r k) places;
+      symbols = map (symbolOr0 r k) positions;
+      follows = map (following r k) positions;
     }
 
 -- no fragment
 unfoldable pub noPiece : Piece
-noPiece = record { size = 0; empty = false; begins = 0; ends = 0; bound = 0; symbols = replicate 31 0; follows = replicate 31 0 }
+noPiece = record { size = 0; empty = false; begins = 0; ends = 0; bound = 0; symbols = replicate occurrenceLimit 0; follows = replicate occurrenceLimit 0 }

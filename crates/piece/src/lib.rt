@@ -10,6 +10,9 @@ ghost use Rattle.pattern.specs.Regex.{Regex};
 ghost use Rattle.pattern.specs.Positions as Positions;
 ghost use Rattle.piece.specs.Pieces.{pieceOf, noPiece};
 
+// "positions 1 to 31"
+pub const POSITIONS: usize = 31;
+
 pub struct Piece {
     pub size: usize,
     pub empty: bool,
@@ -17,8 +20,8 @@ pub struct Piece {
     pub ends: u32,
     // the variables that every word binds
     pub bound: u32,
-    pub symbols: [u32; 31],
-    pub follows: [u32; 31],
+    pub symbols: [u32; POSITIONS],
+    pub follows: [u32; POSITIONS],
 }
 
 pub fn nothing() -> Piece
@@ -30,8 +33,8 @@ pub fn nothing() -> Piece
         begins: 0,
         ends: 0,
         bound: 0,
-        symbols: [0u32; 31],
-        follows: [0u32; 31],
+        symbols: [0u32; POSITIONS],
+        follows: [0u32; POSITIONS],
     }
 }
 
@@ -44,19 +47,19 @@ fn given(t: bool, m: u32) -> u32
 
 // Whether bit p of m is set.
 fn has(m: u32, p: usize) -> bool
-    requires { ⌜ p ≤ 31 ⌝ }
+    requires { ⌜ p ≤ Positions.occurrenceLimit ⌝ }
     ensures { λ r. ⌜ r ≡ bit p m ⌝ }
 {
     (m >> p) & 1 == 1
 }
 
 // Position by position, both sets joined.
-fn joined(a: [u32; 31], b: [u32; 31]) -> [u32; 31]
-    ensures { λ r. ⌜ r ≡ map (λ i. join (getD a i 0) (getD b i 0)) (numbers 0 31) ⌝ }
+fn joined(a: [u32; POSITIONS], b: [u32; POSITIONS]) -> [u32; POSITIONS]
+    ensures { λ r. ⌜ r ≡ map (λ i. join (getD a i 0) (getD b i 0)) (numbers 0 Positions.occurrenceLimit) ⌝ }
 {
     let mut r = a;
     let mut i: usize = 0;
-    while i < 31 {
+    while i < POSITIONS {
         r[i] = a[i] | b[i];
         i += 1;
     }
@@ -64,12 +67,12 @@ fn joined(a: [u32; 31], b: [u32; 31]) -> [u32; 31]
 }
 
 // Every position of `ends` followed by those of `begins` too.
-fn linked(follows: [u32; 31], ends: u32, begins: u32) -> [u32; 31]
-    ensures { λ r. ⌜ r ≡ map (λ i. join (getD follows i 0) (Positions.given (bit (i + 1) ends) begins)) (numbers 0 31) ⌝ }
+fn linked(follows: [u32; POSITIONS], ends: u32, begins: u32) -> [u32; POSITIONS]
+    ensures { λ r. ⌜ r ≡ map (λ i. join (getD follows i 0) (Positions.given (bit (i + 1) ends) begins)) (numbers 0 Positions.occurrenceLimit) ⌝ }
 {
     let mut r = follows;
     let mut i: usize = 0;
-    while i < 31 {
+    while i < POSITIONS {
         let more = given(has(ends, i + 1), begins);
         r[i] = follows[i] | more;
         i += 1;
@@ -79,10 +82,10 @@ fn linked(follows: [u32; 31], ends: u32, begins: u32) -> [u32; 31]
 
 // The occurrence of symbol a, which binds `bound`, at position k.
 pub fn literal(k: usize, a: u32, bound: u32) -> Piece
-    requires { ⌜ (1 ≤ k) × (k ≤ 31) ⌝ }
+    requires { ⌜ (1 ≤ k) × (k ≤ Positions.occurrenceLimit) ⌝ }
     ensures { λ r. ⌜ ((vars : ℕ → ℕ) → vars a ≡ bound → r ≡ pieceOf vars (Regex.lit a) k) ⌝ }
 {
-    let mut y = [0u32; 31];
+    let mut y = [0u32; POSITIONS];
     let at = k - 1;
     y[at] = a;
     let m = 1u32 << k;
@@ -93,13 +96,13 @@ pub fn literal(k: usize, a: u32, bound: u32) -> Piece
         ends: m,
         bound: bound,
         symbols: y,
-        follows: [0u32; 31],
+        follows: [0u32; POSITIONS],
     }
 }
 
 // One fragment and the next behind it.
 pub fn sequence(x: Piece, y: Piece) -> Piece
-    requires { ⌜ (x .size ≤ 31) × (y .size ≤ 31) ⌝ }
+    requires { ⌜ (x .size ≤ Positions.occurrenceLimit) × (y .size ≤ Positions.occurrenceLimit) ⌝ }
     ensures { λ r. ⌜ ((vars : ℕ → ℕ) (a b : Regex) (k : ℕ) → x ≡ pieceOf vars a k → y ≡ pieceOf vars b (k + Positions.size a)
         → r ≡ pieceOf vars (Regex.cat a b) k) ⌝ }
 {
@@ -125,7 +128,7 @@ pub fn sequence(x: Piece, y: Piece) -> Piece
 
 // One fragment or the other.
 pub fn either(x: Piece, y: Piece) -> Piece
-    requires { ⌜ (x .size ≤ 31) × (y .size ≤ 31) ⌝ }
+    requires { ⌜ (x .size ≤ Positions.occurrenceLimit) × (y .size ≤ Positions.occurrenceLimit) ⌝ }
     ensures { λ r. ⌜ ((vars : ℕ → ℕ) (a b : Regex) (k : ℕ) → x ≡ pieceOf vars a k → y ≡ pieceOf vars b (k + Positions.size a)
         → r ≡ pieceOf vars (Regex.alt a b) k) ⌝ }
 {

@@ -10,7 +10,7 @@ use lib.ListN.{take}
 use Rattle.laws.specs.Lists.{all}
 use Rattle.meaning.specs.Book.{soundBook}
 use Rattle.meaning.specs.Sound.{soundState}
-use Rattle.form.specs.Form.{textLimit}
+use Rattle.form.specs.Limits.{textLimit}
 use Rattle.table.specs.declared.Symbol.{Symbol}
 use Rattle.table.specs.declared.Name.{Name}
 use Rattle.table.specs.Tables.{spanOf, inside}

@@ -10,12 +10,21 @@ use Rattle.laws.specs.Parts.{pad}
 use Rattle.meaning.specs.Events as Events
 use Rattle.meaning.specs.Meaning.{noSymbol}
 use Rattle.meaning.specs.Book.{soundPlace}
+use Rattle.form.specs.Limits.{variableLimit, symbolLimit, parameterLimit}
 use Rattle.form.specs.Text.{Bytes, Span}
 use Rattle.form.specs.Lines as Lines
 use Rattle.table.specs.declared.Place.{Place}
 use Rattle.table.specs.declared.Symbol.{Symbol}
 use Rattle.table.specs.declared.Name.{Name}
 use Rattle.table.specs.declared.Table.{Table}
+
+-- how many names a text declares at most
+abbrev pub namesLimit : ℕ
+namesLimit = variableLimit + symbolLimit
+
+-- how many bits a mask has, one to a variable or a position
+abbrev pub maskBits : ℕ
+maskBits = 32
 
 -- plain to code; the canonical padding is the ignored place, the empty symbol, the empty name
 abbrev pub placeOf : Events.Place → Place
@@ -24,7 +33,7 @@ placeOf (Events.Place.names v) = record { tag = 1; number = v }
 
 unfoldable pub symbolOf : Events.Symbol → Symbol
 symbolOf y =
-    record { kind = y .kind; count = length (y .places); places = pad 4 (placeOf Events.Place.ignored) (map placeOf (y .places)) }
+    record { kind = y .kind; count = length (y .places); places = pad parameterLimit (placeOf Events.Place.ignored) (map placeOf (y .places)) }
 
 abbrev pub nameOf : Span → Name
 nameOf x = record { start = x .start; size = x .size }
@@ -37,8 +46,8 @@ tableOf t =
     record {
       variables = length (t .variables);
       count = length (t .table);
-      names = pad 20 noName (map nameOf (t .variables ++ t .symbols));
-      symbols = pad 16 (symbolOf noSymbol) (map symbolOf (t .table));
+      names = pad namesLimit noName (map nameOf (t .variables ++ t .symbols));
+      symbols = pad symbolLimit (symbolOf noSymbol) (map symbolOf (t .table));
     }
 
 -- code to plain: what is counted, and nothing beyond
@@ -67,8 +76,8 @@ inside n x = leb (x .start + x .size) n
 -- places ignored or declared variables
 pub record Ready (s : Bytes) (t : Table) : Type 0 where
   pub coded : t ≡ tableOf (viewTable t)
-  pub fewVariables : t .variables ≤ 4
-  pub fewSymbols : t .count ≤ 16
+  pub fewVariables : t .variables ≤ variableLimit
+  pub fewSymbols : t .count ≤ symbolLimit
   pub inText : all (inside (length s)) (viewTable t .variables ++ viewTable t .symbols) ≡ true
   pub declared : all (λ y. all (soundPlace (t .variables)) (y .places)) (viewTable t .table) ≡ true
-  pub fewPlaces : all (λ y. leb (length (y .places)) 4) (viewTable t .table) ≡ true
+  pub fewPlaces : all (λ y. leb (length (y .places)) parameterLimit) (viewTable t .table) ≡ true

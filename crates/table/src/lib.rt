@@ -7,9 +7,19 @@ ghost use lib.ListN.{length, take, drop, set};
 ghost use Rattle.laws.specs.Lists.{all};
 ghost use Rattle.meaning.specs.Meaning.{noSymbol};
 ghost use Rattle.meaning.specs.Book.{soundPlace, boundIn};
+ghost use Rattle.form.specs.Limits.{variableLimit, symbolLimit, parameterLimit};
 ghost use Rattle.form.specs.Scan.{part};
 ghost use Rattle.form.specs.Lines.{indexOf, noTable};
-ghost use Rattle.table.specs.Tables.{symbolOf, tableOf, spanOf, viewPlace, viewSymbol, inside};
+ghost use Rattle.table.specs.Tables.{namesLimit, maskBits, symbolOf, tableOf, spanOf, viewPlace, viewSymbol, inside};
+
+// "0 to 4 variable names", "1 to 16 lines `sym NAME KIND ARGS`", "ARGS are 0 to 4 words"
+pub const VARIABLES: usize = 4;
+
+pub const SYMBOLS: usize = 16;
+
+pub const PARAMETERS: usize = 4;
+
+pub const NAMES: usize = VARIABLES + SYMBOLS;
 
 // An argument place of a symbol: tag 0, ignored; tag 1, the variable with that number.
 pub struct Place {
@@ -20,7 +30,7 @@ pub struct Place {
 pub struct Symbol {
     pub kind: u32,
     pub count: usize,
-    pub places: [Place; 4],
+    pub places: [Place; PARAMETERS],
 }
 
 // The part of the text where a name is declared.
@@ -33,8 +43,8 @@ pub struct Name {
 pub struct Table {
     pub variables: usize,
     pub count: usize,
-    pub names: [Name; 20],
-    pub symbols: [Symbol; 16],
+    pub names: [Name; NAMES],
+    pub symbols: [Symbol; SYMBOLS],
 }
 
 pub fn no_symbol() -> Symbol
@@ -44,7 +54,7 @@ pub fn no_symbol() -> Symbol
     Symbol {
         kind: 0,
         count: 0,
-        places: [p; 4],
+        places: [p; PARAMETERS],
     }
 }
 
@@ -56,14 +66,14 @@ pub fn no_table() -> Table
     Table {
         variables: 0,
         count: 0,
-        names: [n; 20],
-        symbols: [y; 16],
+        names: [n; NAMES],
+        symbols: [y; SYMBOLS],
     }
 }
 
 // The number, counted from `from`, of the first name before `to` that is the word from p to e; to - from where none is.
-pub fn find(s: &[u8], names: [Name; 20], from: usize, to: usize, p: usize, e: usize) -> usize
-    requires { ⌜ (from ≤ to) × (to ≤ 20)
+pub fn find(s: &[u8], names: [Name; NAMES], from: usize, to: usize, p: usize, e: usize) -> usize
+    requires { ⌜ (from ≤ to) × (to ≤ namesLimit)
         × (p ≤ e) × (e ≤ length (now s)) × (all (inside (length (now s))) (map spanOf (take (to - from) (drop from names))) ≡ true) ⌝ }
     ensures { λ r. ⌜ r ≡ indexOf (now (s .entry)) (map spanOf (take (to - from) (drop from names))) (part (now (s .entry)) p e) ⌝ }
 {
@@ -81,7 +91,7 @@ pub fn find(s: &[u8], names: [Name; 20], from: usize, to: usize, p: usize, e: us
 }
 
 pub fn with_variable(t: Table, n: Name) -> Table
-    requires { ⌜ t .variables < 4 ⌝ }
+    requires { ⌜ t .variables < variableLimit ⌝ }
     ensures { λ r. ⌜ r ≡ record { variables = t .variables + 1; count = t .count; names = set (t .names) (t .variables) n; symbols = t .symbols } ⌝ }
 {
     let at = t.variables;
@@ -92,7 +102,7 @@ pub fn with_variable(t: Table, n: Name) -> Table
 }
 
 pub fn with_symbol(t: Table, n: Name, y: Symbol) -> Table
-    requires { ⌜ (t .variables ≤ 4) × (t .count < 16) ⌝ }
+    requires { ⌜ (t .variables ≤ variableLimit) × (t .count < symbolLimit) ⌝ }
     ensures { λ r. ⌜ r ≡ record {
       variables = t .variables;
       count = t .count + 1;
@@ -101,9 +111,9 @@ pub fn with_symbol(t: Table, n: Name, y: Symbol) -> Table
     } ⌝ }
 {
     let at = t.count;
-    let place = t.variables + at;
+    let number = t.variables + at;
     let mut r = t;
-    r.names[place] = n;
+    r.names[number] = n;
     r.symbols[at] = y;
     r.count = at + 1;
     r
@@ -111,7 +121,7 @@ pub fn with_symbol(t: Table, n: Name, y: Symbol) -> Table
 
 // The variables that a place binds, one bit to a variable.
 fn place_bound(p: Place) -> u32
-    requires { ⌜ soundPlace 32 (viewPlace p) ≡ true ⌝ }
+    requires { ⌜ soundPlace maskBits (viewPlace p) ≡ true ⌝ }
     ensures { λ r. ⌜ r ≡ boundIn (viewPlace p ∷ []) ⌝ }
 {
     let n = p.number;
@@ -123,7 +133,7 @@ fn place_bound(p: Place) -> u32
 
 // Those that a symbol binds.
 pub fn bound_in(y: Symbol) -> u32
-    requires { ⌜ (y .count ≤ 4) × (all (soundPlace 32) (viewSymbol y .places) ≡ true) ⌝ }
+    requires { ⌜ (y .count ≤ parameterLimit) × (all (soundPlace maskBits) (viewSymbol y .places) ≡ true) ⌝ }
     ensures { λ r. ⌜ r ≡ boundIn (viewSymbol y .places) ⌝ }
 {
     let mut m: u32 = 0;

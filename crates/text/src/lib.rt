@@ -8,9 +8,31 @@ ghost use lib.ListN.{length, drop};
 ghost use Rattle.laws.specs.Lists.{all};
 ghost use Rattle.form.specs.Text.{isLower, isDigit, isNameByte};
 ghost use Rattle.form.specs.Form.{sameWord};
-ghost use Rattle.form.specs.Scan.{at, run, isWordByte, spacesEnd, wordEnd, nameEnd, nextWord, nameFault, part, value, kindOf};
+ghost use Rattle.form.specs.Scan.{pastEnd, at, run, isWordByte, spacesEnd, wordEnd, nameEnd, nextWord, nameFault, part, value, kindDigits, kindOf};
 ghost use Rattle.form.specs.Lines.{wantWord};
 ghost use Rattle.text.specs.Steps.{stepOf};
+
+pub const SPACE: usize = b' ' as usize;
+
+pub const LF: usize = b'\n' as usize;
+// What stands past the end: no byte.
+pub const PAST_END: usize = 256;
+
+// The first and the last letter, the first and the last digit.
+const LOWER_A: usize = b'a' as usize;
+
+const LOWER_Z: usize = b'z' as usize;
+
+const ZERO: usize = b'0' as usize;
+
+const NINE: usize = b'9' as usize;
+
+// "1 to 12 bytes"
+pub const NAME_LIMIT: usize = 12;
+// "KIND is 1 to 255", and how many digits that takes.
+const KIND_LIMIT: usize = 255;
+
+const KIND_DIGITS: usize = 3;
 
 // What a step of the reader gives: fault 0 and the place to go on from, or a fault's number and its place.
 pub struct Step {
@@ -24,23 +46,23 @@ fn wide(b: u8) -> usize
     b as usize
 }
 
-// The byte at p, or 256 past the end.
+// The byte at p, or what stands past the end.
 pub fn peek(s: &[u8], p: usize) -> usize
     ensures { λ r. ⌜ r ≡ at (now (s .entry)) p ⌝ }
 {
-    if p < s.len() { wide(s[p]) } else { 256 }
+    if p < s.len() { wide(s[p]) } else { PAST_END }
 }
 
 pub fn is_lower(b: usize) -> bool
     ensures { λ r. ⌜ r ≡ isLower b ⌝ }
 {
-    97 <= b && b <= 122
+    LOWER_A <= b && b <= LOWER_Z
 }
 
 pub fn is_digit(b: usize) -> bool
     ensures { λ r. ⌜ r ≡ isDigit b ⌝ }
 {
-    48 <= b && b <= 57
+    ZERO <= b && b <= NINE
 }
 
 pub fn is_name_byte(b: usize) -> bool
@@ -49,18 +71,18 @@ pub fn is_name_byte(b: usize) -> bool
     is_lower(b) || is_digit(b)
 }
 
-// A byte of a word; 256 is past the end.
+// A byte of a word, and not past the end.
 fn is_word_byte(b: usize) -> bool
-    ensures { λ r. ⌜ r ≡ (isWordByte b && not (eqb b 256)) ⌝ }
+    ensures { λ r. ⌜ r ≡ (isWordByte b && not (eqb b pastEnd)) ⌝ }
 {
-    b != 32 && b != 10 && b != 256
+    b != SPACE && b != LF && b != PAST_END
 }
 
 pub fn spaces_end(s: &[u8], p: usize) -> usize
     ensures { λ r. ⌜ r ≡ spacesEnd (now (s .entry)) p ⌝ }
 {
     let mut i = p;
-    while peek(s, i) == 32 {
+    while peek(s, i) == SPACE {
         i += 1;
     }
     i
@@ -103,12 +125,12 @@ pub fn next_word(s: &[u8], p: usize) -> Step
     let q = spaces_end(s, p);
     let b = peek(s, q);
     if q == p {
-        if b == 10 {
+        if b == LF {
             return Step { fault: 0, place: p };
         }
         return Step { fault: 2, place: p };
     }
-    if b == 10 || b == 256 {
+    if b == LF || b == PAST_END {
         return Step { fault: 2, place: p };
     }
     if q == p + 1 {
@@ -139,7 +161,7 @@ pub fn name_fault(s: &[u8], p: usize, e: usize) -> usize
     ensures { λ r. ⌜ r ≡ nameFault (now (s .entry)) p e ⌝ }
 {
     if name_end(s, p) == e {
-        if e - p <= 12 {
+        if e - p <= NAME_LIMIT {
             return 0;
         }
         return 3;
@@ -180,36 +202,36 @@ fn all_digits(s: &[u8], p: usize, e: usize) -> bool
     true
 }
 
-// The value of at most three digits.
+// The value of a word of digits, no longer than a KIND.
 fn digits_value(s: &[u8], p: usize, e: usize) -> usize
-    requires { ⌜ (p ≤ e) × (e ≤ length (now s)) × (e ≤ p + 3) × (all isDigit (part (now s) p e) ≡ true) ⌝ }
+    requires { ⌜ (p ≤ e) × (e ≤ length (now s)) × (e ≤ p + kindDigits) × (all isDigit (part (now s) p e) ≡ true) ⌝ }
     ensures { λ r. ⌜ r ≡ value 0 (part (now (s .entry)) p e) ⌝ }
 {
     let mut n = 0;
     let mut i = p;
     while i < e {
-        n = n * 10 + (peek(s, i) - 48);
+        n = n * 10 + (peek(s, i) - ZERO);
         i += 1;
     }
     n
 }
 
-// KIND: the value of the word from p to e, or 0 where it is no number from 1 to 255.
+// KIND: the value of the word from p to e, or 0 where it is no number in range.
 pub fn kind_of(s: &[u8], p: usize, e: usize) -> usize
     requires { ⌜ (p ≤ e) × (e ≤ length (now s)) ⌝ }
     ensures { λ r. ⌜ r ≡ kindOf (now (s .entry)) p e ⌝ }
 {
-    if 3 < e - p {
+    if KIND_DIGITS < e - p {
         return 0;
     }
     if !all_digits(s, p, e) {
         return 0;
     }
-    if peek(s, p) == 48 {
+    if peek(s, p) == ZERO {
         return 0;
     }
     let n = digits_value(s, p, e);
-    if n <= 255 {
+    if n <= KIND_LIMIT {
         return n;
     }
     0

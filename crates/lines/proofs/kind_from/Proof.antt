@@ -5,7 +5,8 @@ use Prim.Native.Nat.{_≤_}
 use native.Mathlib.Omega.{arith}
 use borrow.Author.Needs.{needs}
 use lib.ListN.{length}
-use Rattle.form.specs.Lines.{wantWord, argumentsFrom}
+use Rattle.form.specs.Scan.{fail}
+use Rattle.form.specs.Lines.{wantWord, argumentsFrom, noSymbolRead}
 use Rattle.form.proofs.Scans.{wordEnd-ge, wordEnd-le}
 use Rattle.table.specs.Tables.{spanOf, viewTable}
 use Rattle.lines.specs.Results.{argumentsRead, symbolRead}
@@ -52,7 +53,8 @@ returns-2 c =
     let w = n .before in
     let k = w .before .before .before in
     let b = k .before .before in
-    c .no-symbol-read2 .ensures ∙ ap symbolRead
+    let placed : c .no-symbol-read2 .result ≡ symbolRead (noSymbolRead (fail 2 (k .want-word .result .place))) = c .no-symbol-read2 .ensures in
+    placed ∙ ap symbolRead
     (sym (kind-wrong _ _ (spanOf (b .args .name)) _ (step k) (w .before .if1 .left) (w .word-end .ensures) (n .kind-of .ensures) (c .before .if2 .taken)))
 
 no-symbol-requires : tie.Need-no-symbol-requires

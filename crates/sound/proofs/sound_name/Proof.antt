@@ -3,7 +3,7 @@ use mathlib.Core.Path.{sym}
 use Prim.Native.Nat.{_+_}
 use native.Mathlib.Omega.{arith}
 use borrow.Author.Tests.{le-leb, lt-leb}
-use Rattle.form.specs.Form.{textLimit}
+use Rattle.form.specs.Limits.{textLimit}
 use Rattle.sound.proofs.sound_name.Statement.{statement}
 use Rattle.sound.proofs.sound_name.Tie as tie
 

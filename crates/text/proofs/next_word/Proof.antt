@@ -1,10 +1,13 @@
 -- `text::next_word` meets its contract: one return for each case of `nextWord`.
+use mathlib.Core.Path.{_≡_, sym}
 use mathlib.Core.Logic.{⊎-elim}
+use Prim.Native.Nat.{_+_}
 use native.Mathlib.Omega.{arith}
 use borrow.Author.Needs.{needs}
 use borrow.Author.Tests.{eq-eqb, ne-eqb}
 use Rattle.form.specs.Scan.{nextWord}
 use Rattle.form.proofs.Scans.{spacesEnd-ge}
+use Rattle.text.specs.Steps.{stepOf}
 use Rattle.text.proofs.next_word.Statement.{statement}
 use Rattle.text.proofs.next_word.Tie as tie
 
@@ -56,14 +59,19 @@ returns-4 c =
       eq-eqb _ _ (c .if5 .taken),
     )
 
+-- here they end two places past p or more
 add-t9 : tie.Need-add-t9
-add-t9 c = add-if5 (c .before)
+add-t9 c =
+    let a = c .before .before .before .before .before .before .before .args in
+    omega (arith, spacesEnd-ge (a .s .now) (a .p), c .before .before .before .before .before .spaces-end .ok)
 
 returns-5 : tie.Need-returns-5
 unfolding nextWord
 returns-5 c =
+    let a = c .before .before .before .before .before .before .before .args in
     let q = c .before .before .before .before .before .spaces-end in
     let b = c .before .before .before .before .peek in
+    let second : stepOf (nextWord (a .s .now) (a .p)) ≡ record { fault = 2; place = a .p + 1 } =
     rw (
       ← q .ensures,
       ← b .ensures,
@@ -71,7 +79,8 @@ returns-5 c =
       ne-eqb (b .result) 10 (c .before .before .if3 .left),
       c .before .if4 .left,
       ne-eqb _ _ (c .if5 .left),
-    )
+    ) in
+    sym second
 
 pub next-word-spec : {M : Type 1} → statement M
 next-word-spec = tie.close (tie.spec spaces-end-requires peek-requires returns returns-2 returns-3 add-if5 returns-4 add-t9 returns-5)

@@ -1,0 +1,43 @@
+-- Theorem `sampled`: every text of the table is read as document 01 has it, by computation from the definitions alone.
+use mathlib.Core.Path.{_≡_, refl}
+use mathlib.Core.List.{map, map-append}
+use Rattle.laws.specs.Bits.{bit, join, meet, single}
+use Rattle.form.specs.Text.{decimal, header, text}
+use Rattle.form.specs.Scan.{spacesEnd, wordEnd, nameEnd, nextWord, nameFault, kindOf}
+use Rattle.form.specs.Lines.{wantWord, kindFrom, symbolFrom, linesOf}
+use Rattle.form.specs.Parse.{itemOf, nameAtom, closed, alternationFrom, patternFrom}
+use Rattle.form.specs.Reading.{lastLine, matchFrom, readingOf}
+use Rattle.form.specs.Samples.{outcome, wanted, books, lines, patterns, many, deep, long, table}
+
+books-read : map outcome books ≡ map wanted books
+unfolding bit join meet single decimal header text spacesEnd wordEnd nameEnd nextWord nameFault kindOf wantWord kindFrom symbolFrom linesOf itemOf
+    nameAtom closed alternationFrom patternFrom lastLine matchFrom readingOf books
+books-read = refl
+
+lines-read : map outcome lines ≡ map wanted lines
+unfolding bit join meet single decimal header text spacesEnd wordEnd nameEnd nextWord nameFault kindOf wantWord kindFrom symbolFrom linesOf itemOf
+    nameAtom closed alternationFrom patternFrom lastLine matchFrom readingOf lines
+lines-read = refl
+
+patterns-read : map outcome patterns ≡ map wanted patterns
+unfolding bit join meet single decimal header text spacesEnd wordEnd nameEnd nextWord nameFault kindOf wantWord kindFrom symbolFrom linesOf itemOf
+    nameAtom closed alternationFrom patternFrom lastLine matchFrom readingOf patterns
+patterns-read = refl
+
+many-read : map outcome many ≡ map wanted many
+unfolding bit join meet single decimal header text spacesEnd wordEnd nameEnd nextWord nameFault kindOf wantWord kindFrom symbolFrom linesOf itemOf
+    nameAtom closed alternationFrom patternFrom lastLine matchFrom readingOf many
+many-read = refl
+
+deep-read : map outcome deep ≡ map wanted deep
+unfolding bit join meet single decimal header text spacesEnd wordEnd nameEnd nextWord nameFault kindOf wantWord kindFrom symbolFrom linesOf itemOf
+    nameAtom closed alternationFrom patternFrom lastLine matchFrom readingOf deep
+deep-read = refl
+
+long-read : map outcome long ≡ map wanted long
+unfolding bit join meet single decimal header text spacesEnd wordEnd nameEnd nextWord nameFault kindOf wantWord kindFrom symbolFrom linesOf itemOf
+    nameAtom closed alternationFrom patternFrom lastLine matchFrom readingOf long
+long-read = refl
+
+pub sampled : map outcome table ≡ map wanted table
+sampled = simp (map-append, books-read, lines-read, patterns-read, many-read, deep-read, long-read)

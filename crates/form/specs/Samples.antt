@@ -1,0 +1,165 @@
+-- Texts with their readings by document 01, each limit from both sides: the number and place of a refusal, or what is declared, where each
+-- name stands, and the pattern's tree. The theorem about the whole table is in ../proofs/Samples.antt.
+use mathlib.Core.List.{List, [], _∷_, _++_, map}
+use Prim.Native.Nat.{ℕ, zero, suc}
+use Prim.Native.String.{String}
+use lib.ListN.{replicate}
+use Rattle.laws.specs.Lists.{gather}
+use Rattle.pattern.specs.Regex.{Regex, lit, cat, alt, star, plus, opt}
+use Rattle.meaning.specs.Events.{Place, ignored, names}
+use Rattle.form.specs.Text.{Bytes, ascii, space, SymbolLine, Declarations, symbolOf, Span, spans, text}
+use Rattle.form.specs.Form.{symbolNames}
+use Rattle.form.specs.Scan.{fail}
+use Rattle.form.specs.Lines.{Table, bytesAt}
+use Rattle.form.specs.Reading.{Outcome, refused, readingOf}
+
+-- the pattern's bytes behind `match` and a space, what is declared, where the variables' and the symbols' names stand, and the tree
+pub record Read : Type 0 where
+  pub declared : Declarations
+  pub written : Bytes
+  pub variables : List Span
+  pub symbols : List Span
+  pub tree : Regex
+
+pub data Sample : Type 0 where
+  accepts : Bytes → Read → Sample
+  refuses : Bytes → (number place : ℕ) → Sample
+
+-- what the reader gives, and of an accepted text what the printer writes, where it puts the names, and the bytes there
+pub record Result : Type 0 where
+  pub reading : Outcome
+  pub printed : Bytes
+  pub named : List Span
+  pub variables : List Bytes
+  pub symbols : List Bytes
+
+abbrev refusal : Outcome → Result
+refusal o = record { reading = o; printed = []; named = []; variables = []; symbols = [] }
+
+abbrev pub outcome : Sample → Result
+outcome (accepts s r) =
+    record {
+      reading = readingOf s;
+      printed = text (r .declared) (r .written);
+      named = spans (r .declared);
+      variables = map (bytesAt s) (r .variables);
+      symbols = map (bytesAt s) (r .symbols);
+    }
+outcome (refuses s n p) = refusal (readingOf s)
+
+abbrev pub wanted : Sample → Result
+wanted (accepts s r) =
+    let table : Table = record { variables = r .variables; symbols = r .symbols; table = map symbolOf (r .declared .symbols) } in
+    record {
+      reading = record { number = 0; place = 0; table = table; tree = r .tree };
+      printed = s;
+      named = r .variables ++ r .symbols;
+      variables = r .declared .variables;
+      symbols = symbolNames (r .declared);
+    }
+wanted (refuses s n p) = refusal (refused (fail n p))
+
+abbrev line : String → ℕ → List Place → SymbolLine
+line w k ps = record { name = ascii w; kind = k; places = ps }
+
+abbrev span : ℕ → ℕ → Span
+span p n = record { start = p; size = n }
+
+-- `vars`, `sym a 1` and a pattern of this one symbol
+abbrev one : Bytes → Regex → Read
+one p r =
+    record { declared = record { variables = []; symbols = line "a" 1 [] ∷ [] }; written = p; variables = []; symbols = span 9 1 ∷ []; tree = r }
+
+abbrev oneText : Bytes → Bytes
+oneText p = ascii "vars\nsym a 1\nmatch " ++ (p ++ ascii "\n")
+
+-- a word so many times
+abbrev times : ℕ → String → Bytes
+times n w = gather ascii (replicate n w)
+
+-- the first symbol, and so many times more
+abbrev behind : ℕ → Regex
+behind zero = lit 0
+behind (suc n) = cat (lit 0) (behind n)
+
+-- B1; and a book with four variables, a name of 12 bytes, KIND 255, `_` and a variable twice among four arguments, each sign of a pattern
+unfoldable pub books : List Sample
+books =
+    accepts (ascii "vars d s\nsym load 1 d s\nsym drop 2 d\nsym clean 3 d\nmatch load drop+\n")
+    (record {
+      declared = record {
+        variables = ascii "d" ∷ ascii "s" ∷ [];
+        symbols = line "load" 1 (names 0 ∷ names 1 ∷ []) ∷ line "drop" 2 (names 0 ∷ []) ∷ line "clean" 3 (names 0 ∷ []) ∷ [];
+      };
+      written = ascii "load drop+";
+      variables = span 5 1 ∷ span 7 1 ∷ [];
+      symbols = span 13 4 ∷ span 28 4 ∷ span 41 5 ∷ [];
+      tree = cat (lit 0) (plus (lit 1));
+    })
+    ∷ accepts (ascii "vars a b c d\nsym abcdefghijk9 255 a a _ b\nsym e 10 c d\nmatch  (e | abcdefghijk9)?* abcdefghijk9 e+ \n")
+    (record {
+      declared = record {
+        variables = ascii "a" ∷ ascii "b" ∷ ascii "c" ∷ ascii "d" ∷ [];
+        symbols = line "abcdefghijk9" 255 (names 0 ∷ names 0 ∷ ignored ∷ names 1 ∷ []) ∷ line "e" 10 (names 2 ∷ names 3 ∷ []) ∷ [];
+      };
+      written = ascii " (e | abcdefghijk9)?* abcdefghijk9 e+ ";
+      variables = span 5 1 ∷ span 7 1 ∷ span 9 1 ∷ span 11 1 ∷ [];
+      symbols = span 17 12 ∷ span 46 1 ∷ [];
+      tree = cat (star (opt (alt (lit 1) (lit 0)))) (cat (lit 0) (plus (lit 1)));
+    })
+    ∷ []
+
+-- the lines before the pattern, and the end
+unfoldable pub lines : List Sample
+lines =
+    refuses [] 2 0
+    ∷ refuses (ascii "vars a b c d e") 3 13
+    ∷ refuses (ascii "vars abcdefghijklm") 3 5
+    ∷ refuses (ascii "vars  a\n") 2 5
+    ∷ refuses (ascii "vars a \n") 2 6
+    ∷ refuses (ascii "vars a a\n") 4 7
+    ∷ refuses (ascii "vars a\nmatch a\n") 2 7
+    ∷ refuses (ascii "vars a\nsym a 1\n") 4 11
+    ∷ refuses (ascii "vars\nsym a\n") 2 10
+    ∷ refuses (ascii "vars\nsym a 256\n") 2 11
+    ∷ refuses (ascii "vars\nsym a 01\n") 2 11
+    ∷ refuses (ascii "vars\nsym a 1 a\n") 5 13
+    ∷ refuses (ascii "vars b\nsym a 1 b b b b b\n") 3 23
+    ∷ refuses (ascii "vars\nsym a 1\nmatch a") 2 20
+    ∷ refuses (ascii "vars\nsym a 1\nmatch a\n\n") 2 21
+    ∷ []
+
+-- patterns; "No word of the pattern may be empty, and each word must contain, for each variable, a symbol that binds it."
+unfoldable pub patterns : List Sample
+patterns =
+    refuses (oneText (ascii "a |")) 6 22
+    ∷ refuses (oneText (ascii "(a")) 6 21
+    ∷ refuses (oneText (ascii "a b")) 5 21
+    ∷ refuses (oneText (ascii "abcdefghijklm")) 3 19
+    ∷ refuses (oneText (ascii " a*")) 7 20
+    ∷ refuses (ascii "vars d s\nsym a 1 d\nmatch a\n") 8 25
+    ∷ []
+
+-- "At most 31 symbol occurrences"
+unfoldable pub many : List Sample
+many =
+    accepts (oneText (times 31 "a ")) (one (times 31 "a ") (behind 30))
+    ∷ refuses (oneText (times 32 "a ")) 3 81
+    ∷ []
+
+-- "at most 16 parentheses open together"
+unfoldable pub deep : List Sample
+deep =
+    accepts (oneText (times 16 "(" ++ (ascii "a" ++ times 16 ")"))) (one (times 16 "(" ++ (ascii "a" ++ times 16 ")")) (lit 0))
+    ∷ refuses (oneText (times 17 "(" ++ (ascii "a" ++ times 17 ")"))) 3 35
+    ∷ []
+
+-- "A book is ASCII text, at most 4,096 bytes."
+unfoldable pub long : List Sample
+long =
+    accepts (oneText (ascii "a" ++ replicate 4075 space)) (one (ascii "a" ++ replicate 4075 space) (lit 0))
+    ∷ refuses (oneText (ascii "a" ++ replicate 4076 space)) 1 4096
+    ∷ []
+
+abbrev pub table : List Sample
+table = books ++ (lines ++ (patterns ++ (many ++ (deep ++ long))))
