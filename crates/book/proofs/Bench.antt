@@ -21,7 +21,7 @@ use Rattle.meaning.specs.Book as Plain
 use Rattle.meaning.specs.Book.{soundSymbol}
 use Rattle.meaning.proofs.Counts.{begin-count, end-count}
 use Rattle.meaning.proofs.Kept.{proper-sound}
-use Rattle.form.specs.Text.{Bytes, isName, SymbolLine, Declarations, header, tracematchOf, Span, variableSpans, symbolSpans, spans}
+use Rattle.form.specs.Text.{Bytes, isName, SymbolLine, Declarations, header, tracematchOf, Span, variableSpans, symbolSpans, spans, matchWord}
 use Rattle.form.specs.Limits.{textLimit}
 use Rattle.form.specs.Form.{Shape, Form, symbolNames, allNames, binds}
 use Rattle.form.specs.Scan.{run, isSpace}
@@ -31,7 +31,7 @@ use Rattle.form.proofs.Accepted as Accepted
 use Rattle.form.proofs.Header.{header-names}
 use Rattle.form.proofs.Outcomes.{known}
 use Rattle.form.proofs.Shapes.{shape-found}
-use Rattle.table.specs.Tables.{tableOf as heldTable, symbolOf, viewTable, nameOf, noName, spanOf, inside}
+use Rattle.table.specs.Tables.{tableOf as heldTable, symbolOf, viewTable, nameOf, noName, spanOf, inside, namesLimit}
 use Rattle.table.proofs.Codes.{Fits, view-table}
 use Rattle.book.specs.Answers.{numberOf, placeOf, answerOf}
 use Rattle.book.specs.Books.{emptyBook, readingFor, bookFor, reading, viewBook, namePlace, nameBytes}
@@ -193,7 +193,7 @@ pub whole : (s : Bytes) (d : Declarations) (r : Regex) → Form s d r
 unfolding readingFor
 whole s d r f = ap (λ o. readingFor o .book) (Accepted.fields s d r f)
 
-pub book-names : (s : Bytes) (d : Declarations) (r : Regex) → Form s d r → reading s .book .names ≡ pad 20 noName (map nameOf (spans d))
+pub book-names : (s : Bytes) (d : Declarations) (r : Regex) → Form s d r → reading s .book .names ≡ pad namesLimit noName (map nameOf (spans d))
 unfolding bookFor heldTable
 book-names s d r f = ap (λ b. b .names) (whole s d r f)
 
@@ -253,7 +253,7 @@ too-long s = rw (answer-number s) (Accepted.too-long s)
 
 -- where 7 and 8 stand
 pub words-place : (s : Bytes) (d : Declarations) (r : Regex) (f : Shape s d r) → (numberOf (reading s .answer) ≡ 7) ⊎ (numberOf (reading s .answer) ≡ 8)
-    → placeOf (reading s .answer) ≡ length (header d) + 6 + run isSpace (f .written)
+    → placeOf (reading s .answer) ≡ length (header d) + (length matchWord + 1) + run isSpace (f .written)
 words-place s d r f h = answer-place s ∙ Accepted.words-place s d r f (rw (answer-number s) at h)
 
 -- a text has at most one list of declarations and one tree
