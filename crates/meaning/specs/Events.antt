@@ -5,6 +5,7 @@ use Prim.Native.Nat.{ℕ, _^_}
 use lib.Dec.{eqb, leb, ltb}
 use lib.ListN.{length, getD}
 use Rattle.laws.specs.Lists.{any, all}
+use Rattle.meaning.specs.Limits.{kindLimit, argumentLimit}
 
 -- an argument place of a symbol: `_` ("that argument is ignored"), or a declared variable by its number from 0
 pub data Place : Type 0 where
@@ -27,7 +28,7 @@ word32 x = ltb x (2 ^ 32)
 
 -- "byte 0 kind (1 to 255); byte 1 argument count (0 to 4); … unsigned 32-bit … arguments"
 unfoldable pub wellFormed : Event → Bool
-wellFormed e = leb 1 (e .kind) && leb (e .kind) 255 && leb (length (e .args)) 4 && all word32 (e .args)
+wellFormed e = leb 1 (e .kind) && leb (e .kind) kindLimit && leb (length (e .args)) argumentLimit && all word32 (e .args)
 
 -- "variable equals argument"
 pub record Demand : Type 0 where
