@@ -30,10 +30,10 @@ emptyBook =
       names = t .names;
       table = t .symbols;
       positions = 0;
-      occurrences = replicate 31 0;
+      occurrences = replicate Positions.occurrenceLimit 0;
       begins = 0;
       ends = 0;
-      follows = replicate 31 0;
+      follows = replicate Positions.occurrenceLimit 0;
       empty = false;
     }
 
@@ -64,10 +64,10 @@ bookFor o =
       names = t .names;
       table = t .symbols;
       positions = Positions.size r;
-      occurrences = pad 31 0 (Positions.symbols r);
+      occurrences = pad Positions.occurrenceLimit 0 (Positions.symbols r);
       begins = Positions.beginning r 1;
       ends = Positions.ending r 1;
-      follows = pad 31 0 (map (Positions.following r 1) (numbers 1 (Positions.size r)));
+      follows = pad Positions.occurrenceLimit 0 (map (Positions.following r 1) (numbers 1 (Positions.size r)));
       empty = nullable r;
     }
 

@@ -7,18 +7,21 @@ ghost use mathlib.Core.Path.{_≡_};
 ghost use Rattle.book.specs.Answers.{answerOf, numberOf, placeOf};
 ghost use Rattle.book.specs.Books.{emptyBook, bookWith};
 
+// "A book is ASCII text, at most 4,096 bytes."
+pub const TEXT_LIMIT: usize = 4096;
+
 // Counts, the declaring places of names, the symbol table, and the pattern as positions: index i of `occurrences` and `follows` is
 // position i + 1; sets of positions are kept one bit to a position.
 pub struct Book {
     pub variables: usize,
     pub symbols: usize,
-    pub names: [Name; 20],
-    pub table: [Symbol; 16],
+    pub names: [Name; table::NAMES],
+    pub table: [Symbol; table::SYMBOLS],
     pub positions: usize,
-    pub occurrences: [u32; 31],
+    pub occurrences: [u32; piece::POSITIONS],
     pub begins: u32,
     pub ends: u32,
-    pub follows: [u32; 31],
+    pub follows: [u32; piece::POSITIONS],
     pub empty: bool,
 }
 
@@ -128,7 +131,7 @@ pub fn place_of(a: Answer) -> usize
 {
     match a {
         Answer::Accepted => 0,
-        Answer::TooLong => 4096,
+        Answer::TooLong => TEXT_LIMIT,
         Answer::BadLine(p) => p,
         Answer::AboveLimit(p) => p,
         Answer::Redeclared(p) => p,

@@ -21,12 +21,12 @@ use Rattle.fault.specs.Fault
 use Rattle.fault.specs.Fault.{SymbolNamed, TokenFault, Fault, Least, NoFault}
 use Rattle.fault.proofs.Stands.{stuck, on, lessOpen, signed, stand, stands, begins-stands, pattern-stands}
 use Rattle.fault.proofs.Sites.{Clean, least-of, fault-number, fault-inside}
-use Rattle.fault.proofs.Come.{Ready}
+use Rattle.fault.proofs.HeaderPrefix.{Ready}
 use Rattle.fault.proofs.Gaps.{past-end}
-use Rattle.fault.proofs.Walk
-use Rattle.fault.proofs.Walk.{Blocked, Stop, Stopped, Finished}
+use Rattle.fault.proofs.PatternPrefix
+use Rattle.fault.proofs.PatternPrefix.{Blocked, PatternStop, Stopped, Finished}
 use Rattle.fault.proofs.PatternSites.{Here, noSpace, token, noToken, noLF, next-line, line-fault, token-fault, end-fault}
-use Rattle.fault.proofs.WalkFacts.{Walked, walked, walked-spaces, stands-more, name-length}
+use Rattle.fault.proofs.PatternFacts.{PatternFacts, pattern-facts, facts-spaces, stands-more, name-length}
 
 module _ (s : Bytes) (bytes : isBytes s ≡ true) (symbols : List Span) (e : ℕ) (ready : Ready s symbols e) where
   -- the space behind `match` is missing
@@ -35,8 +35,8 @@ module _ (s : Bytes) (bytes : isBytes s ≡ true) (symbols : List Span) (e : ℕ
       least-of s e 2 (ready .clean) (Fault.missingSpace (ready .line) (λ z. h (ap (at s) (ready .end) ∙ z)) (ready .end)) (fault-number s e)
 
   module _ (spaced : at s e ≡ space) where
-    -- where the course has walked to q, with o parentheses open and n names read, and no space stands there
-    module _ (q o : ℕ) (d : Bool) (n : ℕ) (x : Walked s symbols e ready q o d n) (byte : isSpace (at s q) ≡ false) where
+    -- where the prefix up to q is read, with o parentheses open and n names read, and no space stands there
+    module _ (q o : ℕ) (d : Bool) (n : ℕ) (x : PatternFacts s symbols e ready q o d n) (byte : isSpace (at s q) ≡ false) where
       -- what can be wrong with a token here, and with the line
       abbrev Wrong : ℕ → Type 0
       Wrong m = TokenFault s (ready .k) (ready .p) q m
@@ -147,41 +147,41 @@ module _ (s : Bytes) (bytes : isBytes s ≡ true) (symbols : List Span) (e : ℕ
         unfit-least true h = end-least (eqb-true (at s q) pastEnd h)
         unfit-least false h = dite (ℕ-discrete (at s q) lf) lf-least λ c. misplaced-least (eqb-false (at s q) pastEnd h) c
 
-    stop-least : (p o : ℕ) (d : Bool) (n m : ℕ) → Walked s symbols e ready (spacesEnd s p) o d n → Stop s symbols (e + 1) p o d n m
+    pattern-stop-least : (p o : ℕ) (d : Bool) (n m : ℕ) → PatternFacts s symbols e ready (spacesEnd s p) o d n → PatternStop s symbols (e + 1) p o d n m
         → Least s (spacesEnd s p) m
-    stop-least p o d n m x (Walk.long l h) =
+    pattern-stop-least p o d n m x (PatternPrefix.long l h) =
         let y = here-space s p in
         name-least _ o d n x y l 3 (Fault.longToken l (omega (arith, name-length s (spacesEnd s p) (x .inside)))) (from-3 _ o d n x y)
-    stop-least p o d n m x (Walk.many l h) =
+    pattern-stop-least p o d n m x (PatternPrefix.many l h) =
         let y = here-space s p in
         name-least _ o d n x y l 3 (Fault.thirtySecond l (omega (arith, x .names))) (from-3 _ o d n x y)
-    stop-least p o d n m x (Walk.unknown l h i g) =
+    pattern-stop-least p o d n m x (PatternPrefix.unknown l h i g) =
         let y = here-space s p in
         let q = spacesEnd s p in
         let no : SymbolNamed s (ready .k) (nameAt s q) → ⊥ = λ z. omega (arith, ready .known (nameAt s q) .1 z) in
         name-least _ o d n x y l 5
         (⊎-elim (λ g. Fault.variableName l no g) (λ g. Fault.undeclaredName l no g) (ready .variable (nameAt s q)))
         (from-5 _ o d n x y l (omega (arith, name-length s q (x .inside))) i)
-    stop-least p o d n m x (Walk.deep b h) =
+    pattern-stop-least p o d n m x (PatternPrefix.deep b h) =
         let y = here-space s p in
         let q = spacesEnd s p in
         token-least _ o d n x y (omega (arith, inside-of s q opening b refl)) (λ z. omega arith) 3
         (Fault.seventeenthOpen b (omega (arith, x .opened))) (from-3 _ o d n x y)
-    stop-least p o d n m x (Walk.unfit l f b h) =
+    pattern-stop-least p o d n m x (PatternPrefix.unfit l f b h) =
         let q = spacesEnd s p in
         rw h (unfit-least q o d n x (here-space s p) l f b (eqb (at s q) pastEnd) refl)
 
     pub stopped-least : (q n : ℕ) → Stopped s symbols (e + 1) q n → Least s q n
     stopped-least q n x =
-        let y = walked-spaces s symbols e ready (x .p) (x .o) (x .e) (x .k) (walked s symbols e ready spaced (x .walk)) in
-        subst (λ r. Least s r n) (sym (x .place)) (stop-least (x .p) (x .o) (x .e) (x .k) n y (x .stop))
+        let y = facts-spaces s symbols e ready (x .p) (x .o) (x .e) (x .k) (pattern-facts s symbols e ready spaced (x .prefix)) in
+        subst (λ r. Least s r n) (sym (x .place)) (pattern-stop-least (x .p) (x .o) (x .e) (x .k) n y (x .stop))
 
     -- the pattern is whole, and its LF stands at q
     module _ (q : ℕ) (x : Finished s symbols (e + 1) q) where
-      whole : Walked s symbols e ready q 0 true (x .k)
+      whole : PatternFacts s symbols e ready q 0 true (x .k)
       whole =
-          subst (λ r. Walked s symbols e ready r 0 true (x .k)) (sym (x .place))
-          (walked-spaces s symbols e ready (x .p) 0 true (x .k) (walked s symbols e ready spaced (x .walk)))
+          subst (λ r. PatternFacts s symbols e ready r 0 true (x .k)) (sym (x .place))
+          (facts-spaces s symbols e ready (x .p) 0 true (x .k) (pattern-facts s symbols e ready spaced (x .prefix)))
 
       inside : q < length s
       inside = omega (arith, inside-of s q lf (x .lf) refl)

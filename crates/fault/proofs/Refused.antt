@@ -24,9 +24,9 @@ use Rattle.book.specs.Books.{reading}
 use Rattle.book.proofs.Bench as Bench
 use Rattle.fault.specs.Fault.{Fault, Least, NoFault}
 use Rattle.fault.specs.Rules.{AdmitsEmpty, LeavesUnbound, Rules}
-use Rattle.fault.proofs.Come.{Ready}
-use Rattle.fault.proofs.HeaderCourse.{lines-halt, lines-matched}
-use Rattle.fault.proofs.Halts.{halt-least, matched-ready}
+use Rattle.fault.proofs.HeaderPrefix.{Ready}
+use Rattle.fault.proofs.HeaderCourse.{lines-stop, lines-matched}
+use Rattle.fault.proofs.HeaderFaults.{header-stop-least, matched-ready}
 use Rattle.fault.proofs.PatternCourse.{pattern-whole, pattern-stopped}
 use Rattle.fault.proofs.PatternFaults.{space-least, stopped-least, after-least, finished-none}
 
@@ -90,7 +90,7 @@ module _ (s : Bytes) (bytes : isBytes s ≡ true) where
       let l = linesOf s in
       either JudgedOutcome (ltb textLimit (length s)) (λ e. absurd (omega (arith, ltb-true textLimit (length s) e)))
       λ _. either JudgedOutcome (eqb (l .step .fault) 0) (λ f. match-judged short (eqb-true _ _ f))
-      λ f _ _. halt-least s bytes _ _ (lines-halt s bytes (eqb-false _ _ f))
+      λ f _ _. header-stop-least s bytes _ _ (lines-stop s bytes (eqb-false _ _ f))
 
   -- two least faults are one
   same-least : (p n q m : ℕ) → Least s p n → Least s q m → (n ≡ m) × (p ≡ q)

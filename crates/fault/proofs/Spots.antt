@@ -1,5 +1,5 @@
 -- Laws of places: how the spot goes on from byte to byte, over a word, and that words stand in the order of their numbers.
--- For Sites, Halts and PatternFaults, which reason by a place's line and words and not by the bytes before it.
+-- For Sites, HeaderFaults and PatternFaults, which reason by a place's line and words and not by the bytes before it.
 use mathlib.Core.Path.{_≡_, refl, sym, ap, _∙_}
 use mathlib.Core.Bool.{Bool, true, false, cond, not}
 use mathlib.Core.List.{[], _∷_, _++_}

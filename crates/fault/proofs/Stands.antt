@@ -1,5 +1,5 @@
 -- Which tokens begin a pattern, and which are one: a machine that reads them from the left. For the laws of the pattern's course and of
--- its faults (Walk, PatternCourse, PatternFaults), which go token by token.
+-- its faults (PatternPrefix, PatternCourse, PatternFaults), which go token by token.
 use mathlib.Core.Path.{_≡_, refl, sym, ap, _∙_}
 use mathlib.Core.Bool.{Bool, true, false, cond}
 use mathlib.Core.List.{List, [], _∷_, _++_, append-assoc, append-nil}

@@ -1,5 +1,5 @@
 -- The tokens of a part of the text, place by place. Where no name goes on over a place, the tokens up to it and those behind it are the
--- tokens of the whole; so over spaces, over a name, over a sign. For WalkFacts.
+-- tokens of the whole; so over spaces, over a name, over a sign. For PatternFacts.
 use mathlib.Core.Path.{_≡_, refl, sym, ap, ap₂, _∙_}
 use mathlib.Core.Bool.{Bool, true, false, cond, _&&_, _||_, true≢false, and-false}
 use mathlib.Core.List.{[], _∷_, _++_, append-nil, append-assoc}

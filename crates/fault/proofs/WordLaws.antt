@@ -1,5 +1,5 @@
 -- The reader's tests of a word, by the bytes of that word: a new name, an argument, a kind; and which words stand among declared names.
--- For Facts and Halts, which go from these tests to the faults.
+-- For HeaderFacts and HeaderFaults, which go from these tests to the faults.
 use mathlib.Core.Path.{_≡_, refl, sym, ap, ap₂, _∙_}
 use mathlib.Core.Bool.{Bool, true, false, cond, _&&_, _||_, or-true, false≢true}
 use mathlib.Core.List.{List, [], _∷_, _++_, map, map-append}

@@ -8,6 +8,8 @@ use mathlib.Core.Logic.{_⊎_}
 use Prim.Native.Nat.{ℕ, suc, _+_, _≤_, _<_}
 use lib.ListN.{length}
 use Rattle.laws.specs.Lists.{all}
+use Rattle.pattern.specs.Positions.{occurrenceLimit}
+use Rattle.form.specs.Limits.{variableLimit, symbolLimit, kindLimit, parameterLimit, nameLimit, openLimit}
 use Rattle.form.specs.Text.{Bytes, space, lf, isLower, isNameByte, varsWord, symWord, matchWord, ignoredWord, decimal}
 use Rattle.form.specs.Phrase.{opening, closing}
 use Rattle.form.specs.Scan.{at, spacesEnd}
@@ -19,13 +21,13 @@ abbrev pub isNameForm : Bytes → Bool
 isNameForm [] = false
 isNameForm (b ∷ w) = isLower b && all isNameByte w
 
--- the words that declare: on line 0 the 1st to the 4th behind `vars`, on a later line the one behind `sym`
+-- the words that declare: on line 0 those behind `vars` up to the limit, on a later line the one behind `sym`
 abbrev pub Declares : (k i : ℕ) → Type 0
-Declares k i = ((k ≡ 0) × (1 ≤ i) × (i ≤ 4)) ⊎ ((1 ≤ k) × (i ≡ 1))
+Declares k i = ((k ≡ 0) × (1 ≤ i) × (i ≤ variableLimit)) ⊎ ((1 ≤ k) × (i ≡ 1))
 
--- the words that are arguments: up to four behind `sym NAME KIND`
+-- the words that are arguments: up to the limit behind `sym NAME KIND`
 abbrev pub IsArgument : (k i : ℕ) → Type 0
-IsArgument k i = (1 ≤ k) × (3 ≤ i) × (i ≤ 6)
+IsArgument k i = (1 ≤ k) × (3 ≤ i) × (i ≤ 2 + parameterLimit)
 
 -- w is the name of a variable; of a symbol that a line before line k declares
 abbrev pub VariableNamed : Bytes → Bytes → Type 0
@@ -41,18 +43,18 @@ pub data WordFault (s : Bytes) (k i p : ℕ) : ℕ → Type 0 where
   -- "Then 1 to 16 lines `sym NAME KIND ARGS`. … Last line: `match`": any other word (`Header`, in `word` below, excludes `match`)
   notSym : 1 ≤ k → i ≡ 0 → (wordAt s p ≡ symWord → ⊥) → WordFault s k i p 2
   -- "the first excess word … carries 3 (for a seventeenth `sym`, that word"
-  seventeenth : k ≡ 17 → i ≡ 0 → wordAt s p ≡ symWord → WordFault s k i p 3
+  seventeenth : k ≡ symbolLimit + 1 → i ≡ 0 → wordAt s p ≡ symWord → WordFault s k i p 3
   -- "A name is a to z, then a to z or 0 to 9"
   noName : Declares k i → isNameForm (wordAt s p) ≡ false → WordFault s k i p 2
   -- "for a name over 12 bytes, that name"
-  longName : Declares k i → isNameForm (wordAt s p) ≡ true → 12 < length (wordAt s p) → WordFault s k i p 3
+  longName : Declares k i → isNameForm (wordAt s p) ≡ true → nameLimit < length (wordAt s p) → WordFault s k i p 3
   -- "name already declared"; "Variables and symbols share one set of names."
   already : {j h q : ℕ} → Declares k i → Word s j h q → Declares j h → q < p → wordAt s q ≡ wordAt s p → WordFault s k i p 4
   -- "KIND is 1 to 255 without leading zeros"; "A KIND out of range is 2"
-  noKind : 1 ≤ k → i ≡ 2 → ((n : ℕ) → 1 ≤ n → n ≤ 255 → wordAt s p ≡ decimal n → ⊥) → WordFault s k i p 2
+  noKind : 1 ≤ k → i ≡ 2 → ((n : ℕ) → 1 ≤ n → n ≤ kindLimit → wordAt s p ≡ decimal n → ⊥) → WordFault s k i p 2
   -- "ARGS are 0 to 4 words, each a declared variable or `_`": no name and not `_`; a name over 12 bytes
   noArgument : IsArgument k i → (wordAt s p ≡ ignoredWord → ⊥) → isNameForm (wordAt s p) ≡ false → WordFault s k i p 2
-  longArgument : IsArgument k i → isNameForm (wordAt s p) ≡ true → 12 < length (wordAt s p) → WordFault s k i p 3
+  longArgument : IsArgument k i → isNameForm (wordAt s p) ≡ true → nameLimit < length (wordAt s p) → WordFault s k i p 3
   -- "name not declared": neither a variable nor, up to this line, a symbol has this name
   undeclaredArgument : IsArgument k i → isNameForm (wordAt s p) ≡ true → (VariableNamed s (wordAt s p) → ⊥) → (SymbolNamed s (suc k) (wordAt s p) → ⊥)
       → WordFault s k i p 5
@@ -60,17 +62,17 @@ pub data WordFault (s : Bytes) (k i p : ℕ) : ℕ → Type 0 where
   symbolArgument : IsArgument k i → isNameForm (wordAt s p) ≡ true → (VariableNamed s (wordAt s p) → ⊥) → SymbolNamed s (suc k) (wordAt s p)
       → WordFault s k i p 5
   -- "the first excess word, of any form, carries 3": a fifth variable, a fifth argument
-  fifthVariable : k ≡ 0 → i ≡ 5 → WordFault s k i p 3
-  fifthArgument : 1 ≤ k → i ≡ 7 → WordFault s k i p 3
+  fifthVariable : k ≡ 0 → i ≡ variableLimit + 1 → WordFault s k i p 3
+  fifthArgument : 1 ≤ k → i ≡ 3 + parameterLimit → WordFault s k i p 3
 
 -- what may be wrong with the token that begins at q, in the pattern of line k, whose word `match` stands at p
 pub data TokenFault (s : Bytes) (k p q : ℕ) : ℕ → Type 0 where
   -- "for a name over 12 bytes, that name"
-  longToken : isLower (at s q) ≡ true → 12 < length (nameAt s q) → TokenFault s k p q 3
+  longToken : isLower (at s q) ≡ true → nameLimit < length (nameAt s q) → TokenFault s k p q 3
   -- "At most 31 symbol occurrences": a thirty-second, and any after it
-  thirtySecond : isLower (at s q) ≡ true → 31 ≤ occurrences (before s p q) → TokenFault s k p q 3
+  thirtySecond : isLower (at s q) ≡ true → occurrenceLimit ≤ occurrences (before s p q) → TokenFault s k p q 3
   -- "at most 16 parentheses open together": a seventeenth, and any more
-  seventeenthOpen : at s q ≡ opening → 16 + signs closing (before s p q) ≤ signs opening (before s p q) → TokenFault s k p q 3
+  seventeenthOpen : at s q ≡ opening → openLimit + signs closing (before s p q) ≤ signs opening (before s p q) → TokenFault s k p q 3
   -- "name not declared": neither a symbol nor a variable has this name
   undeclaredName : isLower (at s q) ≡ true → (SymbolNamed s k (nameAt s q) → ⊥) → (VariableNamed s (nameAt s q) → ⊥) → TokenFault s k p q 5
   -- "or a variable's in the pattern, is 5"
@@ -95,11 +97,11 @@ pub data Fault (s : Bytes) (q : ℕ) : ℕ → Type 0 where
   -- "Then 1 to 16 lines": `match` stands where the first of them must
   missingSym : Word s 1 0 q → wordAt s q ≡ matchWord → Fault s q 2
   -- "Last line: `match`, a space, a pattern": the space is missing
-  missingSpace : {k p : ℕ} → PatternLine s k p → (at s (p + 5) ≡ space → ⊥) → q ≡ p + 5 → Fault s q 2
+  missingSpace : {k p : ℕ} → PatternLine s k p → (at s (p + length matchWord) ≡ space → ⊥) → q ≡ p + length matchWord → Fault s q 2
   -- "or token"
-  token : {k p n : ℕ} → PatternLine s k p → at s (p + 5) ≡ space → TokenAt s k p q → TokenFault s k p q n → Fault s q n
+  token : {k p n : ℕ} → PatternLine s k p → at s (p + length matchWord) ≡ space → TokenAt s k p q → TokenFault s k p q n → Fault s q n
   -- "pattern out of form": the pattern wants a token more
-  missingToken : {k p : ℕ} → PatternLine s k p → at s (p + 5) ≡ space → On s k q → Ends s q → Begins (before s p q)
+  missingToken : {k p : ℕ} → PatternLine s k p → at s (p + length matchWord) ≡ space → On s k q → Ends s q → Begins (before s p q)
       → (Pattern (before s p q) → ⊥) → Fault s q 6
   -- "a missing LF at the book's end": the book ends on a line before the pattern's (which is then missing) or on the pattern's
   missingLF : {k : ℕ} → On s k q → NoMatch s k → q ≡ length s → Fault s q 2

@@ -78,11 +78,11 @@ inName o (b ∷ l) = inName (cond o (isNameByte b) (isLower b)) l
 
 -- The bytes of the pattern before q, where `match` stands at p: behind that word and a space.
 abbrev pub patternBytes : Bytes → (p q : ℕ) → Bytes
-patternBytes s p q = part s (p + 6) q
+patternBytes s p q = part s (p + (length matchWord + 1)) q
 
 -- a token begins at q: a byte of the pattern's line that is no space and does not go on with a name
 pub record TokenAt (s : Bytes) (k p q : ℕ) : Type 0 where
-  pub behind : p + 6 ≤ q
+  pub behind : p + (length matchWord + 1) ≤ q
   pub present : q < length s
   pub on : On s k q
   pub inLine : at s q ≡ lf → ⊥

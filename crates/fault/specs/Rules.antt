@@ -8,7 +8,7 @@ use Prim.Native.Nat.{ℕ, _+_, _≤_, _<_}
 use lib.ListN.{length}
 use Rattle.laws.specs.Lists.{any}
 use Rattle.pattern.specs.Regex.{Regex, In}
-use Rattle.form.specs.Text.{Bytes, Declarations, header}
+use Rattle.form.specs.Text.{Bytes, matchWord, Declarations, header}
 use Rattle.form.specs.Limits.{textLimit}
 use Rattle.form.specs.Form.{Shape, binds}
 use Rattle.form.specs.Scan.{run, isSpace}
@@ -25,7 +25,7 @@ LeavesUnbound s =
     × ((v : ℕ) × (w : List ℕ) × (v < length (d .variables)) × In r w × (any (binds d v) w ≡ false))
 
 pub record Rules (s : Bytes) (p n : ℕ) : Type 0 where
-  -- 1 at 4,096, iff the text is longer
+  -- 1 at the limit, iff the text is longer
   pub long : ((n ≡ 1) × (p ≡ textLimit)) ↔ (textLimit < length s)
   -- 2 to 6, iff this is the least fault of a text that is not
   pub fault : (m q : ℕ) → 2 ≤ m → m ≤ 6 → ((n ≡ m) × (p ≡ q)) ↔ ((length s ≤ textLimit) × Least s q m)
@@ -34,6 +34,6 @@ pub record Rules (s : Bytes) (p n : ℕ) : Type 0 where
   -- 8, iff none of these and some word leaves a variable unbound
   pub eight : (n ≡ 8) ↔ ((length s ≤ textLimit) × NoFault s × (AdmitsEmpty s → ⊥) × LeavesUnbound s)
   -- 7 and 8 stand at the first token: behind the lines, `match`, a space and the spaces that follow
-  pub first : (d : Declarations) (r : Regex) (f : Shape s d r) → (n ≡ 7) ⊎ (n ≡ 8) → p ≡ length (header d) + 6 + run isSpace (f .written)
+  pub first : (d : Declarations) (r : Regex) (f : Shape s d r) → (n ≡ 7) ⊎ (n ≡ 8) → p ≡ length (header d) + (length matchWord + 1) + run isSpace (f .written)
   -- 0 (at 0) otherwise
   pub none : ((n ≡ 0) × (p ≡ 0)) ↔ ((length s ≤ textLimit) × NoFault s × (AdmitsEmpty s → ⊥) × (LeavesUnbound s → ⊥))

@@ -8,6 +8,7 @@ use table::Table;
 ghost use mathlib.Core.Path.{_≡_};
 ghost use Prim.Native.Nat.{ℕ, _+_, _≤_};
 ghost use lib.ListN.{length};
+ghost use Rattle.form.specs.Limits.{variableLimit};
 ghost use Rattle.form.specs.Parse as Parse;
 ghost use Rattle.form.specs.Reading.{variablesOf, lastLine, allBits, matchFrom};
 ghost use Rattle.table.specs.Tables.{nameOf, viewTable};
@@ -24,7 +25,7 @@ fn last_line(s: &[u8], a: Parsed) -> Parsed
     }
     let p = a.place;
     let q = text::spaces_end(s, p);
-    if text::peek(s, q) != 10 {
+    if text::peek(s, q) != text::LF {
         return grammar::unfit(s, q);
     }
     if q + 1 == s.len() {
@@ -40,7 +41,7 @@ fn last_line(s: &[u8], a: Parsed) -> Parsed
 
 // Whether each of n variables has its bit.
 fn all_bits(n: usize, m: u32) -> bool
-    requires { ⌜ n ≤ 4 ⌝ }
+    requires { ⌜ n ≤ variableLimit ⌝ }
     ensures { λ r. ⌜ r ≡ allBits n m ⌝ }
 {
     let mut v: usize = 0;
@@ -58,11 +59,11 @@ fn match_from(s: &[u8], t: Table, p: usize) -> Parsed
     requires { ⌜ Readable (now s) t 0 p ⌝ }
     ensures { λ r. ⌜ r ≡ parsedOf (variablesOf (viewTable t .table)) 0 (matchFrom (now (s .entry)) (viewTable t) p) ⌝ }
 {
-    if text::peek(s, p) != 32 {
+    if text::peek(s, p) != text::SPACE {
         return grammar::failed(2, p);
     }
     let first = text::spaces_end(s, p + 1);
-    let whole = grammar::alternation(s, t, 16, 0, p + 1);
+    let whole = grammar::alternation(s, t, grammar::DEPTH, 0, p + 1);
     let a = last_line(s, whole);
     if a.fault != 0 {
         return a;
@@ -82,8 +83,8 @@ fn match_from(s: &[u8], t: Table, p: usize) -> Parsed
 pub fn read(s: &[u8]) -> Reading
     ensures { λ r. ⌜ r ≡ reading (now (s .entry)) ⌝ }
 {
-    if 4096 < s.len() {
-        return book::refused(1, 4096);
+    if book::TEXT_LIMIT < s.len() {
+        return book::refused(1, book::TEXT_LIMIT);
     }
     let l = lines::lines_of(s);
     if l.fault != 0 {

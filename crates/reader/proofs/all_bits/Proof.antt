@@ -1,6 +1,6 @@
 -- `reader::all_bits` meets its contract: the loop keeps what the variables from v on say.
 use mathlib.Core.Path.{_≡_, sym, ap, _∙_}
-use mathlib.Core.Bool.{_&&_}
+use mathlib.Core.Bool.{false, _&&_}
 use mathlib.Core.List.{_∷_}
 use Prim.Native.Nat.{ℕ, suc, _+_, _-_, _≤_, _<_}
 use native.Mathlib.Omega.{arith}
@@ -40,7 +40,10 @@ from c =
     sym (c .before .loop .inv .1) ∙ ap (all (λ w. bit w (a .m))) (numbers-cons (c .before .loop .v) (a .n) (c .loop-test .taken))
 
 returns : tie.Need-returns Inv-loop μ-loop
-returns c = rw (from (c .before), ← bit-test, ne-eqb _ 1 (c .if1 .taken))
+returns c =
+    let a = c .before .before .before .args in
+    let missed : allBits (a .n) (a .m) ≡ false = rw (from (c .before), ← bit-test, ne-eqb _ 1 (c .if1 .taken)) in
+    sym missed
 
 add-v : tie.Need-add-v Inv-loop μ-loop
 add-v c = omega arith

@@ -121,6 +121,11 @@ returns-2 c =
     let e = line-read (c .before .before) in
     rw (faulty (a .s .now) (a .t) (a .p) (space-at (c .before .before .before .before .before)) e (c .if2 .taken)) e
 
+-- the pattern's first token: behind `match`, a space, and the spaces that follow
+first : (c : tie.After-last-line) → let a = c .before .before .before .before .before .before .args in
+    c .before .before .spaces-end .result ≡ spacesEnd (a .s .now) (a .p + 1)
+first c = c .before .before .spaces-end .ensures
+
 failed-requires-2 : tie.Need-failed-requires-2
 failed-requires-2 c κs = search needs
 
@@ -129,8 +134,9 @@ returns-3 c =
     let last = c .before .before .before .before .before in
     let a = last .before .before .before .before .before .before .args in
     rw (
-      empty (a .s .now) (a .t) (a .p) (space-at (last .before .before .before)) (line-read last) (c .before .before .before .if2 .left) (c .before .if3 .taken),
-      ← last .before .before .spaces-end .ensures,
+      empty (a .s .now) (a .t) (a .p) (space-at (last .before .before .before)) (line-read last) (c .before .before .before .if2 .left)
+          (c .before .if3 .taken),
+      ← first last,
     )
     (c .failed2 .ensures ∙ failed-parsed _ 0 7 _ (omega arith))
 
@@ -160,7 +166,7 @@ returns-5 c =
     rw (
       unbound (a .s .now) (a .t) (a .p) (space-at (last .before .before .before)) (line-read last) (c .before .before .before .before .before .if2 .left)
           (start .pre .ready) (c .before .before .before .if3 .left) (sym (c .before .before .all-bits .ensures) ∙ c .before .if4 .left),
-      ← last .before .before .spaces-end .ensures,
+      ← first last,
     )
     (c .failed3 .ensures ∙ failed-parsed _ 0 8 _ (omega arith))
 

@@ -1,4 +1,4 @@
--- What is known on the way of Come: the spot, that no fault stands before it, and which words the places of names hold. For Halts.
+-- What is known where a prefix of the header ends: the spot, that no fault stands before it, and which words the places of names hold. For HeaderFaults.
 use mathlib.Core.Path.{_≡_, refl, sym, ap, _∙_}
 use mathlib.Core.Bool.{true, false, not, true≢false, false≢true}
 use mathlib.Core.List.{List, [], _∷_, _++_, append-nil}
@@ -21,7 +21,7 @@ use Rattle.fault.specs.Places.{On, Ends, spotAt, Word, wordAt, Header}
 use Rattle.fault.specs.Fault.{WordFault, Fault, Declares, IsArgument, isNameForm}
 use Rattle.fault.proofs.Spots.{spot-zero, spot-step, word-end, word-bytes, word-spot, word-same}
 use Rattle.fault.proofs.Sites.{Clean, inside-fault, space-fault, word-fault, lf-fault}
-use Rattle.fault.proofs.Come.{Gap, Come}
+use Rattle.fault.proofs.HeaderPrefix.{Gap, HeaderPrefix}
 use Rattle.fault.proofs.WordLaws.{Among, among-append, among-one, span-word, word-first}
 use Rattle.fault.proofs.WordLaws.{Declaring, declaring, Arguing, arguing, kind-some}
 use Rattle.fault.proofs.WordFaults.{Stood, stands-as, NoVariable, first-wrong, name-wrong, kind-wrong, argument-wrong}
@@ -38,7 +38,7 @@ abbrev pub Lists : (s : Bytes) (D : ℕ → ℕ → Type 0) (p : ℕ) (xs : List
 Lists s D p xs = (w : Bytes) → Among s xs w ↔ Stood s D p w
 
 -- what is known where i words of line k are read and the last of them ends at p
-pub record Facts (s : Bytes) (p k i : ℕ) (vs ss : List Span) : Type 0 where
+pub record HeaderFacts (s : Bytes) (p k i : ℕ) (vs ss : List Span) : Type 0 where
   pub inside : p ≤ length s
   pub spot : spotAt s p ≡ record { line = k; words = i; inside = true }
   pub clean : Clean s p
@@ -131,7 +131,7 @@ module _ (s : Bytes) where
 
   -- over one word more
   pub over : {j h r : ℕ} (us ts : List Span) → Word s j h r → Clean s r → Header s j → ((n : ℕ) → WordFault s j h r n → ⊥)
-      → Lists s IsVariable (wordEnd s r) us → Lists s IsSymbol (wordEnd s r) ts → Facts s (wordEnd s r) j (suc h) us ts
+      → Lists s IsVariable (wordEnd s r) us → Lists s IsSymbol (wordEnd s r) ts → HeaderFacts s (wordEnd s r) j (suc h) us ts
   over {r = r} us ts v c a x y z = record {
     inside = word-end s v .1;
     spot = word-spot s v (wordEnd s r) (word-end s v .0) (omega arith);
@@ -142,7 +142,7 @@ module _ (s : Bytes) where
     symbols = z;
   }
 
-  module _ {p k i : ℕ} {vs ss : List Span} (f : Facts s p k i vs ss) where
+  module _ {p k i : ℕ} {vs ss : List Span} (f : HeaderFacts s p k i vs ss) where
     pub on : On s k p
     on = ap (λ y. y .line) (f .spot)
 
@@ -189,7 +189,7 @@ module _ (s : Bytes) where
       none z k = z (k .number) (k .place) (rw (k .is .0) at (k .word)) (inl (refl, k .is .1, k .is .2)) (k .same)
 
   -- behind the word `vars`
-  begun : wordAt s 0 ≡ varsWord → Facts s (wordEnd s 0) 0 1 [] []
+  begun : wordAt s 0 ≡ varsWord → HeaderFacts s (wordEnd s 0) 0 1 [] []
   begun e = over [] [] v (λ q n l. absurd (omega arith)) (λ j q a b. absurd (omega arith))
       (λ n x. omega (arith, first-wrong refl (λ _. e) (λ h. absurd (omega arith)) x)) (none IsVariable λ x. omega arith)
       (none IsSymbol λ x. omega arith)
@@ -206,11 +206,11 @@ module _ (s : Bytes) where
         λ z. absurd (⊎-elim (λ b. omega arith) (λ c. x (rw (c .0, c .1) at (z .is))) (word-parts v (z .word) (z .before))),
       )
 
-  module _ {p k i : ℕ} {vs ss : List Span} (f : Facts s p k i vs ss) where
+  module _ {p k i : ℕ} {vs ss : List Span} (f : HeaderFacts s p k i vs ss) where
     -- over a word behind a space, and over the word `sym`
     module _ (g : Gap s p) where
       stepped : (us ts : List Span) → ((n : ℕ) → WordFault s k i (p + 1) n → ⊥) → Lists s IsVariable (wordEnd s (p + 1)) us
-          → Lists s IsSymbol (wordEnd s (p + 1)) ts → Facts s (wordEnd s (p + 1)) k (suc i) us ts
+          → Lists s IsSymbol (wordEnd s (p + 1)) ts → HeaderFacts s (wordEnd s (p + 1)) k (suc i) us ts
       stepped us ts = over us ts (gap-word f g) (gap-passed f g) (f .header)
 
       apart : isWordByte (at s p) ≡ false
@@ -225,7 +225,7 @@ module _ (s : Bytes) where
     pub line-word : at s p ≡ lf → (b : ℕ) (w : Bytes) → wordAt s (p + 1) ≡ b ∷ w → Word s (suc k) 0 (p + 1)
     line-word l b w e = let x = word-first s (p + 1) b w e in record { present = x .0; byte = x .1; spot = line-spot f l }
 
-    lined : k ≤ 15 → (1 ≤ k → 3 ≤ i) → at s p ≡ lf → wordAt s (p + 1) ≡ symWord → Facts s (wordEnd s (p + 1)) (suc k) 1 vs ss
+    lined : k ≤ 15 → (1 ≤ k → 3 ≤ i) → at s p ≡ lf → wordAt s (p + 1) ≡ symWord → HeaderFacts s (wordEnd s (p + 1)) (suc k) 1 vs ss
     lined a b l e =
         let v = line-word l _ _ e in
         let x : isWordByte (at s p) ≡ false = ap isWordByte l in
@@ -234,30 +234,30 @@ module _ (s : Bytes) where
         (lists-same v x IsVariable vs (λ y. omega arith) (f .variables))
         (lists-same v x IsSymbol ss (λ y. omega arith) (f .symbols))
 
-  pub come-facts : {p k i : ℕ} {vs ss : List Span} → Come s p k i vs ss → Facts s p k i vs ss
-  come-facts (Come.opened e) = begun e
-  come-facts (Come.variable p i vs c a b g e) =
-      let f = come-facts c in
+  pub header-facts : {p k i : ℕ} {vs ss : List Span} → HeaderPrefix s p k i vs ss → HeaderFacts s p k i vs ss
+  header-facts (HeaderPrefix.opened e) = begun e
+  header-facts (HeaderPrefix.variable p i vs c a b g e) =
+      let f = header-facts c in
       let v = gap-word f g in
       let d : IsVariable 0 i = (refl, a, b) in
       stepped f g (vs ++ (spanOf (p + 1) (wordEnd s (p + 1)) ∷ [])) []
       (fresh-right vs v (apart f g) (inl d) (rw append-nil at (lists-joined p vs [] (f .variables) (f .symbols)))
       (rw e at (declaring v vs)))
       (lists-more v (apart f g) IsVariable vs d (f .variables)) (symbols-same f g λ y. omega arith)
-  come-facts (Come.line p k i vs ss c a b l e) = lined (come-facts c) a b l e
-  come-facts (Come.named p k vs ss c a g e) =
-      let f = come-facts c in
+  header-facts (HeaderPrefix.line p k i vs ss c a b l e) = lined (header-facts c) a b l e
+  header-facts (HeaderPrefix.named p k vs ss c a g e) =
+      let f = header-facts c in
       let v = gap-word f g in
       stepped f g vs (ss ++ (spanOf (p + 1) (wordEnd s (p + 1)) ∷ []))
       (fresh-right (vs ++ ss) v (apart f g) (inr (a, refl)) (lists-joined p vs ss (f .variables) (f .symbols))
       (rw e at (declaring v (vs ++ ss))))
       (variables-same f g λ y. omega arith) (lists-more v (apart f g) IsSymbol ss (a, refl) (f .symbols))
-  come-facts (Come.kinded p k vs ss c a g e) =
-      let f = come-facts c in
+  header-facts (HeaderPrefix.kinded p k vs ss c a g e) =
+      let f = header-facts c in
       let m = kind-some (gap-word f g) e in
       stepped f g vs ss (λ n x. kind-wrong a refl (m .0) (m .1) (m .2) (m .3) x) (variables-same f g λ y. omega arith)
       (symbols-same f g λ y. omega arith)
-  come-facts (Come.argued p k i vs ss c a b d g e) =
-      let f = come-facts c in
+  header-facts (HeaderPrefix.argued p k i vs ss c a b d g e) =
+      let f = header-facts c in
       stepped f g vs ss (argument-right vs (a, b, d) (f .variables) (rw e at (arguing (gap-word f g) vs)))
       (variables-same f g λ y. omega arith) (symbols-same f g λ y. omega arith)

@@ -1,5 +1,5 @@
--- Where the course halts before the pattern, the least fault stands; and what is known where it comes to the word `match`.
--- By Facts: no fault stands before the place; here, the fault at the place and that none there has a smaller number.
+-- Where the course stops before the pattern, the least fault stands; and what is known where it comes to the word `match`.
+-- By HeaderFacts: no fault stands before the place; here, the fault at the place and that none there has a smaller number.
 use mathlib.Core.Path.{_≡_, refl, sym, ap, _∙_}
 use mathlib.Core.Bool.{Bool, true, false, true≢false, false≢true}
 use mathlib.Core.List.{List, [], _++_, append-nil}
@@ -21,11 +21,11 @@ use Rattle.fault.specs.Places.{spotAt, Word, wordAt, Header, PatternLine
 use Rattle.fault.specs.Fault.{WordFault, Declares, IsArgument, VariableNamed, SymbolNamed, Fault, Least}
 use Rattle.fault.proofs.Spots.{spot-zero, spot-step, spot-later, word-end, word-bytes, word-spot, word-same, word-before}
 use Rattle.fault.proofs.Sites.{Clean, least-of, fault-number, match-end, word-fault, match-fault}
-use Rattle.fault.proofs.Come.{Halt, Matched, Ready}
+use Rattle.fault.proofs.HeaderPrefix.{HeaderStop, Matched, Ready}
 use Rattle.fault.proofs.WordLaws.{Among, Declaring, declaring, Arguing, arguing, kind-none}
 use Rattle.fault.proofs.WordFaults.{Stood, NoVariable, IsExcess, first-wrong, name-wrong, argument-wrong, excess-wrong}
-use Rattle.fault.proofs.Facts.{IsSymbol, Lists, Facts, which, lists-joined, on, gap-word, gap-clean, gap-passed}
-use Rattle.fault.proofs.Facts.{line-spot, line-clean, line-header, line-word, come-facts}
+use Rattle.fault.proofs.HeaderFacts.{IsSymbol, Lists, HeaderFacts, which, lists-joined, on, gap-word, gap-clean, gap-passed}
+use Rattle.fault.proofs.HeaderFacts.{line-spot, line-clean, line-header, line-word, header-facts}
 
 -- what a byte may be
 by-byte : {A : Type 0} (b : ℕ) → (b ≡ space → A) → (b ≡ lf → A) → (isWordByte b ≡ true → A) → A
@@ -142,7 +142,7 @@ module _ (s : Bytes) where
       wrong v h c (⊎-elim (λ z. WordFault.symbolArgument d a no z) (λ z. WordFault.undeclaredArgument d a no z) g)
       λ m f. ⊎-elim (λ e. absurd (omega arith)) (λ e. omega (arith, e .1)) (argument-wrong d (inr a) f .1)
 
-  module _ {p k i : ℕ} {vs ss : List Span} (f : Facts s p k i vs ss) where
+  module _ {p k i : ℕ} {vs ss : List Span} (f : HeaderFacts s p k i vs ss) where
     -- the words of line 0 stand before p
     no-variable : 1 ≤ k → (w : Bytes) → (Among s vs w → ⊥) → NoVariable s w
     no-variable a w x h q u d e =
@@ -230,61 +230,61 @@ module _ (s : Bytes) where
             (λ b. other (record { present = l; byte = b; spot = line-spot s f a }) (sameWord (wordAt s (p + 1)) matchWord) refl)
 
 module _ (s : Bytes) (bytes : isBytes s ≡ true) where
-  pub halt-least : (q n : ℕ) → Halt s q n → Least s q n
-  halt-least q n (Halt.noVars x e) = rw e (two s 0 (λ r m l. absurd (omega arith)) (first-fault s x))
-  halt-least q n (Halt.noLF k i vs ss c e) =
-      let f = come-facts s c in
+  pub header-stop-least : (q n : ℕ) → HeaderStop s q n → Least s q n
+  header-stop-least q n (HeaderStop.noVars x e) = rw e (two s 0 (λ r m l. absurd (omega arith)) (first-fault s x))
+  header-stop-least q n (HeaderStop.noLF k i vs ss c e) =
+      let f = header-facts s c in
       two s q (f .clean) (Fault.missingLF (on s f) (λ j r a b. f .header j r a (omega arith)) e)
-  halt-least q n (Halt.lastSpace k i vs ss c a e) =
-      let f = come-facts s c in
+  header-stop-least q n (HeaderStop.lastSpace k i vs ss c a e) =
+      let f = header-facts s c in
       two s q (f .clean) (Fault.spaceLast (on s f) (f .header) a e)
-  halt-least q n (Halt.twoSpaces p k i vs ss c a b x e) =
-      let f = come-facts s c in
+  header-stop-least q n (HeaderStop.twoSpaces p k i vs ss c a b x e) =
+      let f = header-facts s c in
       rw e (two s (p + 1) (gap-clean s f a x) (Fault.spaceTwice p (on s f) (f .header) a b refl))
-  halt-least q n (Halt.badVariable p i m vs c a b g e z r) =
-      let f = come-facts s c in
+  header-stop-least q n (HeaderStop.badVariable p i m vs c a b g e z r) =
+      let f = header-facts s c in
       let v = gap-word s f g in
       rw r (declared-least s vs v (f .header) (gap-passed s f g) (inl (refl, a, b))
       (rw append-nil at (lists-joined s p vs [] (f .variables) (f .symbols))) (rw e at (declaring v vs)) z)
-  halt-least q n (Halt.fifthVariable p vs ss c g e) =
-      let f = come-facts s c in
+  header-stop-least q n (HeaderStop.fifthVariable p vs ss c g e) =
+      let f = header-facts s c in
       let x : IsExcess 0 5 = inl (refl, refl) in
       rw e (wrong s (gap-word s f g) (f .header) (gap-passed s f g) (WordFault.fifthVariable refl refl)
       λ m w. omega (arith, excess-wrong x w))
-  halt-least q n (Halt.fewWords k i vs ss c a b e) =
-      let f = come-facts s c in
+  header-stop-least q n (HeaderStop.fewWords k i vs ss c a b e) =
+      let f = header-facts s c in
       two s q (f .clean) (Fault.missingWord (on s f) (f .header) (inl e) (inr (a, omega (arith, ap (λ y. y .words) (f .spot)))))
-  halt-least q n (Halt.badName p k m vs ss c a g e z r) =
-      let f = come-facts s c in
+  header-stop-least q n (HeaderStop.badName p k m vs ss c a g e z r) =
+      let f = header-facts s c in
       let v = gap-word s f g in
       rw r (declared-least s (vs ++ ss) v (f .header) (gap-passed s f g) (inr (a, refl))
       (lists-joined s p vs ss (f .variables) (f .symbols)) (rw e at (declaring v (vs ++ ss))) z)
-  halt-least q n (Halt.badKind p k vs ss c a g e r) =
-      let f = come-facts s c in
+  header-stop-least q n (HeaderStop.badKind p k vs ss c a g e r) =
+      let f = header-facts s c in
       let v = gap-word s f g in
       rw r (two s (p + 1) (gap-passed s f g) (Fault.word v (f .header) (WordFault.noKind a refl (kind-none v e))))
-  halt-least q n (Halt.badArgument p k i m vs ss c a b d g e z r) =
-      let f = come-facts s c in
+  header-stop-least q n (HeaderStop.badArgument p k i m vs ss c a b d g e z r) =
+      let f = header-facts s c in
       let v = gap-word s f g in
       rw r (argument-least s vs v (f .header) (gap-passed s f g) (a, b, d) (no-variable s f a _)
       (decided _ _ (symbols-before s f b (wordAt s (p + 1)))) (rw e at (arguing v vs)) z)
-  halt-least q n (Halt.fifthArgument p k vs ss c a g e) =
-      let f = come-facts s c in
+  header-stop-least q n (HeaderStop.fifthArgument p k vs ss c a g e) =
+      let f = header-facts s c in
       let x : IsExcess k 7 = inr (a, refl) in
       rw e (wrong s (gap-word s f g) (f .header) (gap-passed s f g) (WordFault.fifthArgument a refl)
       λ m w. omega (arith, excess-wrong x w))
-  halt-least q n (Halt.badLine p k i vs ss c a b l x y e) =
-      let f = come-facts s c in
+  header-stop-least q n (HeaderStop.badLine p k i vs ss c a b l x y e) =
+      let f = header-facts s c in
       rw e (two s (p + 1) (line-clean s f l b) (line-fault s f l x y))
-  halt-least q n (Halt.seventeenth p i vs ss c a l e r) =
-      let f = come-facts s c in
+  header-stop-least q n (HeaderStop.seventeenth p i vs ss c a l e r) =
+      let f = header-facts s c in
       let v = line-word s f l _ _ e in
       rw r (wrong s v (line-header s f v λ m. omega (arith, ap length (sym e ∙ m))) (line-clean s f l λ _. a)
       (WordFault.seventeenth refl refl e) λ m w. omega (arith, first-wrong refl (λ h. absurd (omega arith)) (λ _. e) w))
 
   pub matched-ready : (e : ℕ) (vs ss : List Span) → Matched s e vs ss → Ready s ss e
   matched-ready e vs ss m =
-      let f = come-facts s (m .come) in
+      let f = header-facts s (m .prefix) in
       let v = line-word s f (m .ended) _ _ (m .match) in
       let l : PatternLine s (suc (m .k)) (m .p + 1) = record { word = v; match = m .match; behind = omega arith; first = f .header } in
       let x : suc (m .k) ≡ 1 → ⊥ = λ z. omega (arith, m .lines) in

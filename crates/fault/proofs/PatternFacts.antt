@@ -1,5 +1,5 @@
--- What is known at a place of the pattern to which the course has walked: no fault stands before it, and what the tokens before it are. By
--- Walk, token by token. For PatternFaults.
+-- What is known where a prefix of the pattern ends: no fault stands before it, and what its tokens are. By PatternPrefix, token by token.
+-- For PatternFaults.
 use mathlib.Core.Path.{_≡_, refl, sym, ap, subst, _∙_}
 use mathlib.Core.Bool.{Bool, true, false, cond, true≢false}
 use mathlib.Core.List.{List, [], _∷_, _++_}
@@ -27,9 +27,9 @@ use Rattle.fault.specs.Fault.{TokenFault, Fault}
 use Rattle.fault.proofs.Stands.{Stand, on, stand, stands, stand-append, begins-stands}
 use Rattle.fault.proofs.Spots.{word-spot}
 use Rattle.fault.proofs.Sites.{Clean, match-end}
-use Rattle.fault.proofs.Come.{Ready}
-use Rattle.fault.proofs.Walk
-use Rattle.fault.proofs.Walk.{Walk}
+use Rattle.fault.proofs.HeaderPrefix.{Ready}
+use Rattle.fault.proofs.PatternPrefix
+use Rattle.fault.proofs.PatternPrefix.{PatternPrefix}
 use Rattle.fault.proofs.TokenPlaces.{Apart, spaces-bytes, spaces-tokens, spaces-apart}
 use Rattle.fault.proofs.TokenPlaces.{name-bytes, name-tokens, name-apart, name-inside, sign-tokens, sign-apart}
 use Rattle.fault.proofs.PatternSites.{Here, noSpace, token, noToken, noLF, same-line, line-fault, clean-over}
@@ -93,7 +93,7 @@ module _ (s : Bytes) (symbols : List Span) (e : ℕ) (ready : Ready s symbols e)
   a = w + 6
 
   -- what is known at p: all tokens before it can stand, o parentheses are open, d says whether an item may end here, n names were read
-  pub record Walked (p o : ℕ) (d : Bool) (n : ℕ) : Type 0 where
+  pub record PatternFacts (p o : ℕ) (d : Bool) (n : ℕ) : Type 0 where
     pub inside : p ≤ length s
     pub beyond : a ≤ p
     pub on : On s k p
@@ -103,8 +103,8 @@ module _ (s : Bytes) (symbols : List Span) (e : ℕ) (ready : Ready s symbols e)
     pub names : occurrences (before s w p) ≡ n
     pub opened : signs opening (before s w p) ≡ o + signs closing (before s w p)
 
-  pub walked-spaces : (p o : ℕ) (d : Bool) (n : ℕ) → Walked p o d n → Walked (spacesEnd s p) o d n
-  walked-spaces p o d n x =
+  pub facts-spaces : (p o : ℕ) (d : Bool) (n : ℕ) → PatternFacts p o d n → PatternFacts (spacesEnd s p) o d n
+  facts-spaces p o d n x =
       let i = spacesEnd-le s p (x .inside) in
       let t = spaces-tokens s a p (x .beyond) (x .apart) in
       let c = clean-over s k w (ready .line) (ready .later) p (spacesEnd s p) (x .beyond) (spacesEnd-ge s p) i (x .on) (x .clean)
@@ -122,7 +122,7 @@ module _ (s : Bytes) (symbols : List Span) (e : ℕ) (ready : Ready s symbols e)
       }
 
   -- over the token t, which stands from q up to r
-  module _ (q o : ℕ) (d : Bool) (n : ℕ) (x : Walked q o d n) (t : Token) (o' : ℕ) (d' : Bool)
+  module _ (q o : ℕ) (d : Bool) (n : ℕ) (x : PatternFacts q o d n) (t : Token) (o' : ℕ) (d' : Bool)
       (fits : stand (Stand.on o d) t ≡ Stand.on o' d') where
     stands-on : stands (before s w q ++ (t ∷ [])) ≡ Stand.on o' d'
     stands-on = stands-more (before s w q) t ∙ ap (λ y. stand y t) (x .stand) ∙ fits
@@ -130,10 +130,10 @@ module _ (s : Bytes) (symbols : List Span) (e : ℕ) (ready : Ready s symbols e)
     begins-on : tokenAt s q ≡ t → Begins (before s w q ++ (tokenAt s q ∷ []))
     begins-on e = rw e (begins-stands (before s w q ++ (t ∷ [])) .1 (o', d', stands-on))
 
-    walked-token : (r : ℕ) → q ≤ r → r ≤ length s → before s w r ≡ before s w q ++ (t ∷ []) → Apart s a r
+    facts-token : (r : ℕ) → q ≤ r → r ≤ length s → before s w r ≡ before s w q ++ (t ∷ []) → Apart s a r
         → ((i : ℕ) → q ≤ i → i < r → at s i ≡ lf → ⊥) → ((i m : ℕ) → q ≤ i → i < r → TokenAt s k w i → TokenFault s k w i m → ⊥)
-        → o + signs opening (t ∷ []) ≡ o' + signs closing (t ∷ []) → Walked r o' d' (n + occurrences (t ∷ []))
-    walked-token r h i b p f g c =
+        → o + signs opening (t ∷ []) ≡ o' + signs closing (t ∷ []) → PatternFacts r o' d' (n + occurrences (t ∷ []))
+    facts-token r h i b p f g c =
         let u = clean-over s k w (ready .line) (ready .later) q r (x .beyond) h i (x .on) (x .clean) f g in
         record {
           inside = i;
@@ -147,12 +147,12 @@ module _ (s : Bytes) (symbols : List Span) (e : ℕ) (ready : Ready s symbols e)
               rw b (omega (arith, count-more (isSign opening) (before s w q) t, count-more (isSign closing) (before s w q) t, x .opened));
         }
 
-  walked-name : (q o : ℕ) (d : Bool) (n : ℕ) → Walked q o d n → isLower (at s q) ≡ true → nameEnd s q - q ≤ 12 → n < 31
-      → indexOf s symbols (nameAt s q) < length symbols → Walked (nameEnd s q) o true (suc n)
-  walked-name q o d n x l h m i =
+  facts-name : (q o : ℕ) (d : Bool) (n : ℕ) → PatternFacts q o d n → isLower (at s q) ≡ true → nameEnd s q - q ≤ 12 → n < 31
+      → indexOf s symbols (nameAt s q) < length symbols → PatternFacts (nameEnd s q) o true (suc n)
+  facts-name q o d n x l h m i =
       let b = name-tokens s a q (x .beyond) (x .apart) l in
       let z : n + 1 ≡ suc n = omega arith in
-      rw z at (walked-token q o d n x (name (nameAt s q)) o true refl (nameEnd s q) (nameEnd-ge s q) (nameEnd-le s q (x .inside)) b
+      rw z at (facts-token q o d n x (name (nameAt s q)) o true refl (nameEnd s q) (nameEnd-ge s q) (nameEnd-le s q (x .inside)) b
       (name-apart s a q l)
       (λ r u v y. true≢false (sym (name-bytes s q r l u v) ∙ ap isNameByte y))
       (λ r c u v y f. dite (decLt q r) (λ g. name-inside s a q r (x .beyond) (x .apart) l g v (y .begins)) λ g. first r c (omega arith) f)
@@ -170,13 +170,13 @@ module _ (s : Bytes) (symbols : List Span) (e : ℕ) (ready : Ready s symbols e)
       first : (r c : ℕ) → r ≡ q → TokenFault s k w r c → ⊥
       first r c e f = right c (rw e at f)
 
-  walked-sign : (q o : ℕ) (d : Bool) (n : ℕ) → Walked q o d n → (c o' : ℕ) (d' : Bool) → at s q ≡ c → Sign o d c o' d'
-      → Walked (q + 1) o' d' n
-  walked-sign q o d n x c o' d' e g =
+  facts-sign : (q o : ℕ) (d : Bool) (n : ℕ) → PatternFacts q o d n → (c o' : ℕ) (d' : Bool) → at s q ≡ c → Sign o d c o' d'
+      → PatternFacts (q + 1) o' d' n
+  facts-sign q o d n x c o' d' e g =
       let l : q < length s = omega (arith, inside-of s q c e (g .plain .3)) in
       let b = sign-tokens s a q (x .beyond) (x .apart) l (ap isLower e ∙ low) (ap isSpace e ∙ g .plain .1) in
       let z : n + 0 ≡ n = omega arith in
-      rw z at (walked-token q o d n x (sign c) o' d' (g .fits) (q + 1) (omega arith) (omega arith)
+      rw z at (facts-token q o d n x (sign c) o' d' (g .fits) (q + 1) (omega arith) (omega arith)
       (b ∙ ap (λ y. before s w q ++ (sign y ∷ [])) e) (sign-apart s a q (x .beyond) l (ap isNameByte e ∙ g .plain .0))
       (λ r u v y. eqb-false c lf (g .plain .2) (sym e ∙ ap (at s) {x = q} {y = r} (omega arith) ∙ y))
       (λ r m u v y f. first r m (omega arith) f) (g .count))
@@ -203,8 +203,8 @@ module _ (s : Bytes) (symbols : List Span) (e : ℕ) (ready : Ready s symbols e)
 
   module _ (spaced : at s e ≡ space) where
     -- behind `match` and its space
-    walked-begin : Walked (e + 1) 0 false 0
-    walked-begin =
+    facts-begin : PatternFacts (e + 1) 0 false 0
+    facts-begin =
         let l : e < length s = omega (arith, inside-of s e space spaced refl) in
         let empty : part s a (e + 1) ≡ [] = ap (λ m. take m (drop a s)) {x = e + 1 - a} {y = 0} (omega (arith, ready .end)) in
         record {
@@ -233,13 +233,13 @@ module _ (s : Bytes) (symbols : List Span) (e : ℕ) (ready : Ready s symbols e)
         first : (r m : ℕ) → r ≡ e → Fault s r m → ⊥
         first r m h f = right m (line-fault s k w (ready .line) (ready .later) e m (omega (arith, ready .end)) on-match (rw h at f))
 
-    pub walked : {p o : ℕ} {d : Bool} {n : ℕ} → Walk s symbols (e + 1) p o d n → Walked p o d n
-    walked Walk.begin = walked-begin
-    walked (Walk.name p o d n x l h m i) = walked-name (spacesEnd s p) o d n (walked-spaces p o d n (walked x)) l h m i
-    walked (Walk.opened p o d n x b h) =
-        walked-sign (spacesEnd s p) o d n (walked-spaces p o d n (walked x)) opening (suc o) false b (opening-sign o d h)
-    walked (Walk.closed p o n x b) =
-        walked-sign (spacesEnd s p) (suc o) true n (walked-spaces p (suc o) true n (walked x)) closing o true b (closing-sign o)
-    walked (Walk.either p o n x b) = walked-sign (spacesEnd s p) o true n (walked-spaces p o true n (walked x)) bar o false b (bar-sign o)
-    walked (Walk.postfix p o n x b) =
-        walked-sign (spacesEnd s p) o true n (walked-spaces p o true n (walked x)) (at s (spacesEnd s p)) o true refl (postfix-sign o _ b)
+    pub pattern-facts : {p o : ℕ} {d : Bool} {n : ℕ} → PatternPrefix s symbols (e + 1) p o d n → PatternFacts p o d n
+    pattern-facts PatternPrefix.begin = facts-begin
+    pattern-facts (PatternPrefix.name p o d n x l h m i) = facts-name (spacesEnd s p) o d n (facts-spaces p o d n (pattern-facts x)) l h m i
+    pattern-facts (PatternPrefix.opened p o d n x b h) =
+        facts-sign (spacesEnd s p) o d n (facts-spaces p o d n (pattern-facts x)) opening (suc o) false b (opening-sign o d h)
+    pattern-facts (PatternPrefix.closed p o n x b) =
+        facts-sign (spacesEnd s p) (suc o) true n (facts-spaces p (suc o) true n (pattern-facts x)) closing o true b (closing-sign o)
+    pattern-facts (PatternPrefix.either p o n x b) = facts-sign (spacesEnd s p) o true n (facts-spaces p o true n (pattern-facts x)) bar o false b (bar-sign o)
+    pattern-facts (PatternPrefix.postfix p o n x b) =
+        facts-sign (spacesEnd s p) o true n (facts-spaces p o true n (pattern-facts x)) (at s (spacesEnd s p)) o true refl (postfix-sign o _ b)
