@@ -1,5 +1,6 @@
 // Whether a book and a state, filled in any way, are sound: answer 9 otherwise. For the event call.
 use book::Book;
+use book::TEXT_LIMIT;
 use disjunct::Disjunct;
 use piece::POSITIONS;
 use slot::BEFORE;
@@ -28,9 +29,6 @@ ghost use Rattle.disjunct.specs.Disjuncts.{viewDisjunct};
 ghost use Rattle.state.specs.States.{heldFirst};
 ghost use Rattle.sound.specs.Soundness.{namePlaced, bookSound, stateSound};
 ghost use Rattle.sound.specs.Tests.{slotSound, disjunctSound, symbolSound, patternSound, poolSound};
-
-// "A book is ASCII text, at most 4,096 bytes."
-const TEXT_LIMIT: usize = 4096;
 
 fn both(a: bool, b: bool) -> bool
     ensures { λ r. ⌜ r ≡ (a && b) ⌝ }
