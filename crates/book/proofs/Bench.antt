@@ -15,14 +15,15 @@ use Rattle.laws.proofs.Lists.{and-true-split, all-at, all-of, all-map, length-n
 use Rattle.laws.proofs.Parts.{pad-take}
 use Rattle.pattern.specs.Regex.{Regex, In}
 use Rattle.pattern.specs.Positions as Positions
+use Rattle.pattern.specs.Positions.{occurrenceLimit}
 use Rattle.pattern.proofs.Masks.{symbols-length}
 use Rattle.meaning.specs.Events.{Symbol}
 use Rattle.meaning.specs.Book as Plain
 use Rattle.meaning.specs.Book.{soundSymbol}
 use Rattle.meaning.proofs.Counts.{begin-count, end-count}
 use Rattle.meaning.proofs.Kept.{proper-sound}
-use Rattle.form.specs.Text.{Bytes, isName, SymbolLine, Declarations, header, tracematchOf, Span, variableSpans, symbolSpans, spans, matchWord}
-use Rattle.form.specs.Limits.{textLimit}
+use Rattle.form.specs.Text.{Bytes, isName, matchWord, SymbolLine, Declarations, header, tracematchOf, Span, variableSpans, symbolSpans, spans}
+use Rattle.form.specs.Limits.{textLimit, symbolLimit, parameterLimit}
 use Rattle.form.specs.Form.{Shape, Form, symbolNames, allNames, binds}
 use Rattle.form.specs.Scan.{run, isSpace}
 use Rattle.form.specs.Lines.{bytesAt, declaredTable}
@@ -31,7 +32,7 @@ use Rattle.form.proofs.Accepted as Accepted
 use Rattle.form.proofs.Header.{header-names}
 use Rattle.form.proofs.Outcomes.{known}
 use Rattle.form.proofs.Shapes.{shape-found}
-use Rattle.table.specs.Tables.{tableOf as heldTable, symbolOf, viewTable, nameOf, noName, spanOf, inside, namesLimit}
+use Rattle.table.specs.Tables.{namesLimit, tableOf as heldTable, symbolOf, viewTable, nameOf, noName, spanOf, inside}
 use Rattle.table.proofs.Codes.{Fits, view-table}
 use Rattle.book.specs.Answers.{numberOf, placeOf, answerOf}
 use Rattle.book.specs.Books.{emptyBook, readingFor, bookFor, reading, viewBook, namePlace, nameBytes}
@@ -90,13 +91,13 @@ pub empty-book : (s : Bytes) → (numberOf (reading s .answer) ≡ 0 → ⊥)
     ≡ record {
       variables = 0;
       symbols = 0;
-      names = replicate 20 (record { start = 0; size = 0 });
-      table = replicate 16 (record { kind = 0; count = 0; places = replicate 4 (record { tag = 0; number = 0 }) });
+      names = replicate namesLimit (record { start = 0; size = 0 });
+      table = replicate symbolLimit (record { kind = 0; count = 0; places = replicate parameterLimit (record { tag = 0; number = 0 }) });
       positions = 0;
-      occurrences = replicate 31 0;
+      occurrences = replicate occurrenceLimit 0;
       begins = 0;
       ends = 0;
-      follows = replicate 31 0;
+      follows = replicate occurrenceLimit 0;
       empty = false;
     }
 unfolding emptyBook heldTable symbolOf pad
@@ -238,7 +239,7 @@ names-inside s d r f =
     sym (length-map (t .symbols) _) ∙ ap length (symbol-sizes _ (d .variables) (d .symbols)) ∙ simp length-map in
     let n : length (t .variables) + length (t .table) ≡ length (map nameOf (spans d)) =
     sym (length-map (spans d) nameOf ∙ length-append (t .variables) (t .symbols) ∙ ap (length (t .variables) +_) m) in
-    rw (whole s d r f, n, pad-take 20 noName (map nameOf (spans d)), all-map (λ x. inside (length s) (spanOf x)) nameOf (spans d))
+    rw (whole s d r f, n, pad-take namesLimit noName (map nameOf (spans d)), all-map (λ x. inside (length s) (spanOf x)) nameOf (spans d))
     (spans-inside s (spans d) (span-sizes d ∙ ap (map length) (sym e)) (ap (all isName) e ∙ f .shape .named))
 
 -- "A read book … never gets 9": the book's share of it

@@ -18,7 +18,8 @@ use Rattle.form.proofs.Scans.{run-end, at-end, at-inside, wordEnd-le, spacesEnd
 use Rattle.form.proofs.TokenScan.{by-equal, inside-of, here-space}
 use Rattle.fault.specs.Places.{Ends}
 use Rattle.fault.proofs.Spots.{run-inside}
-use Rattle.fault.proofs.HeaderPrefix.{Gap, HeaderPrefix, opened, variable, line, named, kinded, argued, HeaderStop, noLF, lastSpace, twoSpaces, fewWords}
+use Rattle.fault.proofs.HeaderPrefix.{Gap, HeaderPrefix, opened, variable, line, named, kinded, argued}
+use Rattle.fault.proofs.HeaderPrefix.{HeaderStop, noLF, lastSpace, twoSpaces, fewWords}
 
 -- p is the end of a word
 pub record WordEnd (s : Bytes) (p : ℕ) : Type 0 where

@@ -105,7 +105,8 @@ module _ (s : Bytes) (bytes : isBytes s ≡ true) where
     SymbolProgress x r = Progress s (r .step) (Read s k vs ss (r .step .place) × (r .name ≡ x))
 
     -- KIND, and then ARGS, whose course is left open: with the count of their room it would compute
-    kind-ways : (x : Span) (p : ℕ) (others : ℕ → Arguments) → HeaderPrefix s p k 2 vs ss → ((q : ℕ) → HeaderPrefix s q k 3 vs ss → ArgumentsProgress (others q))
+    kind-ways : (x : Span) (p : ℕ) (others : ℕ → Arguments) → HeaderPrefix s p k 2 vs ss
+        → ((q : ℕ) → HeaderPrefix s q k 3 vs ss → ArgumentsProgress (others q))
         → let w = wantWord s p in let e = wordEnd s (w .place) in let n = kindOf s (w .place) e in let r = others e in
         let whole : SymbolRead = record { step = r .step; name = x; symbol = record { kind = n; places = r .places } } in
         let some = cond (eqb (r .step .fault) 0) whole (noSymbolRead (r .step)) in

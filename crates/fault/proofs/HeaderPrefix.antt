@@ -45,7 +45,8 @@ pub data HeaderStop (s : Bytes) (q : ℕ) : ℕ → Type 0 where
   fewWords : (k i : ℕ) (vs ss : List Span) → HeaderPrefix s q k i vs ss → 1 ≤ k → i ≤ 2 → at s q ≡ lf → HeaderStop s q 2
   badName : (p k n : ℕ) (vs ss : List Span) → HeaderPrefix s p k 1 vs ss → 1 ≤ k → Gap s p → declareFault s (vs ++ ss) (p + 1) (wordEnd s (p + 1)) ≡ n
       → (n ≡ 0 → ⊥) → q ≡ p + 1 → HeaderStop s q n
-  badKind : (p k : ℕ) (vs ss : List Span) → HeaderPrefix s p k 2 vs ss → 1 ≤ k → Gap s p → kindOf s (p + 1) (wordEnd s (p + 1)) ≡ 0 → q ≡ p + 1 → HeaderStop s q 2
+  badKind : (p k : ℕ) (vs ss : List Span) → HeaderPrefix s p k 2 vs ss → 1 ≤ k → Gap s p → kindOf s (p + 1) (wordEnd s (p + 1)) ≡ 0
+      → q ≡ p + 1 → HeaderStop s q 2
   badArgument : (p k i n : ℕ) (vs ss : List Span) → HeaderPrefix s p k i vs ss → 1 ≤ k → 3 ≤ i → i ≤ 6 → Gap s p
       → argumentFault s vs (p + 1) (wordEnd s (p + 1)) ≡ n → (n ≡ 0 → ⊥) → q ≡ p + 1 → HeaderStop s q n
   fifthArgument : (p k : ℕ) (vs ss : List Span) → HeaderPrefix s p k 7 vs ss → 1 ≤ k → Gap s p → q ≡ p + 1 → HeaderStop s q 3

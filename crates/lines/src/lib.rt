@@ -147,7 +147,8 @@ fn argument_of(s: &[u8], t: Table, p: usize, e: usize) -> Place
 // Argument words from p on, behind those that y holds.
 fn arguments_from(s: &[u8], t: Table, y: Symbol, p: usize) -> ArgumentsRead
     requires { ⌜ Ready (now s) t × (y ≡ symbolOf (viewSymbol y)) × (y .count ≤ parameterLimit) × (p ≤ length (now s)) ⌝ }
-    ensures { λ r. ⌜ r ≡ argumentsRead (y .kind) (Lines.argumentsFrom (now (s .entry)) (viewTable t .variables) (parameterLimit - y .count) (viewSymbol y .places) p) ⌝ }
+    ensures { λ r. ⌜ r ≡ argumentsRead (y .kind) (Lines.argumentsFrom (now (s .entry)) (viewTable t .variables)
+        (parameterLimit - y .count) (viewSymbol y .places) p) ⌝ }
 {
     let n = text::next_word(s, p);
     let q = n.place;

@@ -4,6 +4,7 @@ use Prim.Native.Nat.{ℕ, _+_}
 use lib.Dec.{leb, ltb}
 use lib.ListN.{take}
 use Rattle.laws.specs.Lists.{all}
+use Rattle.pattern.specs.Positions.{occurrenceLimit}
 use Rattle.meaning.specs.Book.{soundSymbol, soundMask}
 use Rattle.meaning.specs.Sound.{soundEntry}
 use Rattle.table.specs.declared.Symbol.{Symbol}
@@ -33,7 +34,7 @@ declaredSound b = all (symbolSound (b .variables)) (take (b .symbols) (b .table)
 unfoldable pub patternSound : Book → Bool
 patternSound b =
     let n = b .positions in
-    leb 1 n && leb n 31
+    leb 1 n && leb n occurrenceLimit
     && all (λ a. ltb a (b .symbols)) (take n (b .occurrences))
     && soundMask n (b .begins) && soundMask n (b .ends) && all (soundMask n) (take n (b .follows))
     && not (b .empty)

@@ -2,7 +2,7 @@
 -- disjuncts, the same number of each. A set that may hold only so many elements is `full` once it would hold more.
 use mathlib.Core.Bool.{Bool, cond, _&&_}
 use mathlib.Core.List.{List, [], _∷_, _++_, map}
-use Prim.Native.Nat.{ℕ, _*_}
+use Prim.Native.Nat.{ℕ, _+_, _*_}
 use lib.Dec.{eqb, leb}
 use lib.ListN.{length, take}
 use Rattle.laws.specs.Bits.{bit}
@@ -13,6 +13,7 @@ use Rattle.meaning.specs.Book.{Book, positions, endsAt, symbolOf}
 use Rattle.meaning.specs.Labels.{Disjunct, Held, sources, heldAt, freeDisjunct, isFree, compareDisjuncts, meets, met, skipBy, skipThrough}
 use Rattle.meaning.specs.Room.{heldLimit, fewExclusions, setRoom, skipRoom}
 use Rattle.meaning.specs.Rows.{compareValuations, valuationOf}
+use Rattle.form.specs.Limits.{variableLimit, symbolLimit}
 
 -- the elements of the second list whose partner in the first passes
 abbrev pub pick : {A B : Type 0} → (A → Bool) → List A → List B → List B
@@ -28,7 +29,7 @@ heldOf (p ∷ ps) (D ∷ l) = heldAt p D ∷ heldOf ps l
 
 -- the start's label, if the position begins, before the others
 unfoldable pub withStart : Bool → List Disjunct → List Disjunct
-withStart begins l = cond begins (freeDisjunct 4 ∷ []) [] ++ l
+withStart begins l = cond begins (freeDisjunct variableLimit ∷ []) [] ++ l
 
 -- the disjuncts that meet c, met with it
 unfoldable pub metList : Constraint → List Disjunct → List Disjunct
@@ -66,7 +67,7 @@ appended q h (grown l) = within heldLimit (h ++ map (heldAt q) l)
 
 -- "an event has at most 16 × 129 rows"
 abbrev pub rowLimit : ℕ
-rowLimit = 16 * 129
+rowLimit = symbolLimit * (heldLimit + 1)
 
 -- the rows of one ending position put among those before
 unfoldable pub rowsWith : Constraint → List Disjunct → Grown Valuation → Grown Valuation

@@ -134,7 +134,8 @@ returns-3 c =
     let last = c .before .before .before .before .before in
     let a = last .before .before .before .before .before .before .args in
     rw (
-      empty (a .s .now) (a .t) (a .p) (space-at (last .before .before .before)) (line-read last) (c .before .before .before .if2 .left) (c .before .if3 .taken),
+      empty (a .s .now) (a .t) (a .p) (space-at (last .before .before .before)) (line-read last) (c .before .before .before .if2 .left)
+          (c .before .if3 .taken),
       ← first last,
     )
     (c .failed2 .ensures ∙ failed-parsed _ 0 7 _ (omega arith))
