@@ -44,17 +44,17 @@ variable-bytes s p (w ∷ ws) rest e =
     let h : drop (p + 1) s ≡ w ++ (spaced ws ++ rest) = behind s p (space ∷ []) (w ++ (spaced ws ++ rest)) (e ∙ spaced-first w ws rest) in
     ap₂ _∷_ (part-first s (p + 1) w (spaced ws ++ rest) h) (variable-bytes s (p + 1 + length w) ws rest (behind s (p + 1) w (spaced ws ++ rest) h))
 
-symbol-places : (s : Bytes) (p : ℕ) (vs : List Bytes) (ls : List SymbolLine) (rest : Bytes) → drop p s ≡ gather (symLine vs) ls ++ rest
+symbols-placed : (s : Bytes) (p : ℕ) (vs : List Bytes) (ls : List SymbolLine) (rest : Bytes) → drop p s ≡ gather (symLine vs) ls ++ rest
     → map (bytesAt s) (symbolSpans p vs ls) ≡ map (λ l. l .name) ls
-symbol-places s p vs [] rest e = refl
-symbol-places s p vs (l ∷ ls) rest e =
+symbols-placed s p vs [] rest e = refl
+symbols-placed s p vs (l ∷ ls) rest e =
     let tail = gather (symLine vs) ls ++ rest in
     let h : drop p s ≡ symLine vs l ++ tail = e ∙ append-assoc (symLine vs l) (gather (symLine vs) ls) rest in
     let ws = decimal (l .kind) ∷ map (placeWord vs) (l .places) in
     let k : symLine vs l ++ tail ≡ symWord ++ (space ∷ (l .name ++ (spaced ws ++ (lf ∷ tail)))) =
     line-text vs l tail ∙ ap (λ r. symWord ++ r) (spaced-first (l .name) ws (lf ∷ tail)) in
     ap₂ _∷_ (part-first s (p + 4) (l .name) _ (behind s p (symWord ++ (space ∷ [])) (l .name ++ (spaced ws ++ (lf ∷ tail))) (h ∙ k)))
-    (symbol-places s (p + length (symLine vs l)) vs ls rest (behind s p (symLine vs l) tail h))
+    (symbols-placed s (p + length (symLine vs l)) vs ls rest (behind s p (symLine vs l) tail h))
 
 -- the first line
 vars-text : (vs : List Bytes) (rest : Bytes) → varsLine vs ++ rest ≡ varsWord ++ (spaced vs ++ (lf ∷ rest))
@@ -205,7 +205,7 @@ header-found s h = by (header-course s)
 pub header-names : (s : Bytes) (d : Declarations) → Header s d → (map (bytesAt s) (declaredTable d .variables) ≡ d .variables)
     × (map (bytesAt s) (declaredTable d .symbols) ≡ map (λ l. l .name) (d .symbols))
 header-names s d h =
-    (variables-placed s d h, symbol-places s (length (varsLine (d .variables))) (d .variables) (d .symbols) (matchWord ++ h .rest) (other-lines s d h))
+    (variables-placed s d h, symbols-placed s (length (varsLine (d .variables))) (d .variables) (d .symbols) (matchWord ++ h .rest) (other-lines s d h))
 
 -- a fault of the lines stands inside the text
 pub lines-place : (s : Bytes) → linesOf s .step .place ≤ length s
