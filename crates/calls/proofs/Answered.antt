@@ -15,6 +15,7 @@ use Rattle.meaning.specs.Book.{bookOf, Proper}
 use Rattle.meaning.specs.Labels.{Held, State as Reachable, newHeld}
 use Rattle.meaning.specs.Room.{Broken}
 use Rattle.meaning.specs.Rows.{rows}
+use Rattle.meaning.specs.Sound.{eventLimit}
 use Rattle.meaning.specs.Runs as Runs
 use Rattle.meaning.specs.Runs.{Listed}
 use Rattle.meaning.proofs.Kept.{state-after}
@@ -29,6 +30,7 @@ use Rattle.form.specs.Form.{Form}
 use Rattle.form.proofs.Accepted.{form-proper}
 use Rattle.record.specs.Records.{isRecord, eventIn}
 use Rattle.book.specs.Books.{reading}
+use Rattle.writer.specs.RowBytes.{rowSize}
 use Rattle.calls.specs.Answers.{numberOf}
 use Rattle.calls.specs.Calls.{taken}
 use Rattle.calls.specs.Runs.{Call, Made, Lent, allBytes, runOf, traceOf, Within, heldFrom, heldAfter}
@@ -54,7 +56,7 @@ module _ (tm : Tracematch) (t : List Event) (l : Lent) where
   abbrev Chosen : ℕ → Type 0
   Chosen =
       Choice (isRecord (l .bytes) ≡ false) 10
-      (Choice (length t ≡ 1000000) 11
+      (Choice (length t ≡ eventLimit) 11
       (Choice (Broken (bookOf tm) (heldAfter tm t) (eventIn (l .bytes))) 12
       (Choice (TooShort tm t (eventIn (l .bytes)) (l .buffer) (l .place)) 13 (λ n. n ≡ 0))))
 
@@ -120,7 +122,7 @@ module _ (tm : Tracematch) (ok : Proper tm) (cs : List Runs.Call) (good : all we
   -- and what is lent for them
   module _ (e : Event) (w : wellFormed e ≡ true) (buffer : Bytes) (place : ℕ) where
     abbrev size : ℕ
-    size = 24 * length (rows (bookOf tm) (heldAfter tm trace) e)
+    size = rowSize * length (rows (bookOf tm) (heldAfter tm trace) e)
 
     too-short : length buffer < place + size → TooShort tm trace e buffer place
     too-short h = dite (decLt (length buffer) place) beyond (λ n. over _ (listed-next e w) (omega arith) (omega arith))

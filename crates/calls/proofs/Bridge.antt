@@ -36,6 +36,7 @@ use Rattle.book.proofs.Bench.{fields, whole, names-inside}
 use Rattle.state.specs.States.{stateOf, heldFirst, viewState}
 use Rattle.state.proofs.States.{view-state}
 use Rattle.sound.specs.Soundness.{symbolCounts, namePlaced, bookCounts, bookSound, stateSound}
+use Rattle.writer.specs.RowBytes.{rowSize}
 use Rattle.calls.specs.declared.EventAnswer.{EventAnswer}
 use Rattle.calls.specs.declared.EventAnswer.the-variants.{Accepted, OutOfForm, TooMany, NoRoom, NoSpace}
 use Rattle.calls.specs.Runs.{Lent, Made, wasAccepted}
@@ -105,9 +106,9 @@ pub data Decision (tm : Tracematch) (s : State) (l : Lent) : EventAnswer → Typ
   tooMany : isRecord (l .bytes) ≡ true → s .number ≡ eventLimit → Decision tm s l TooMany
   noRoom : isRecord (l .bytes) ≡ true → s .number < eventLimit → room (bookOf tm) (s .held) (eventIn (l .bytes)) ≡ false → Decision tm s l NoRoom
   noSpace : isRecord (l .bytes) ≡ true → s .number < eventLimit → room (bookOf tm) (s .held) (eventIn (l .bytes)) ≡ true
-      → length (l .buffer) < l .place + 24 * length (rows (bookOf tm) (s .held) (eventIn (l .bytes))) → Decision tm s l NoSpace
+      → length (l .buffer) < l .place + rowSize * length (rows (bookOf tm) (s .held) (eventIn (l .bytes))) → Decision tm s l NoSpace
   accepted : isRecord (l .bytes) ≡ true → s .number < eventLimit → room (bookOf tm) (s .held) (eventIn (l .bytes)) ≡ true
-      → l .place + 24 * length (rows (bookOf tm) (s .held) (eventIn (l .bytes))) ≤ length (l .buffer) → Decision tm s l Accepted
+      → l .place + rowSize * length (rows (bookOf tm) (s .held) (eventIn (l .bytes))) ≤ length (l .buffer) → Decision tm s l Accepted
 
 -- a plain state that calls reach from the fresh one
 pub record Reached (tm : Tracematch) (s : State) : Type 0 where

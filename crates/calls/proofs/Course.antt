@@ -30,7 +30,7 @@ use Rattle.book.specs.Books.{reading}
 use Rattle.state.specs.declared.State.{State as Struct}
 use Rattle.state.specs.States.{stateOf}
 use Rattle.tally.specs.Tallies.{tallied}
-use Rattle.writer.specs.RowBytes.{rowBytes}
+use Rattle.writer.specs.RowBytes.{rowSize, rowBytes}
 use Rattle.calls.specs.declared.EventAnswer.{EventAnswer}
 use Rattle.calls.specs.declared.EventAnswer.the-variants.{Accepted, OutOfForm, TooMany, NoRoom, NoSpace}
 use Rattle.calls.specs.declared.Taken.{Taken}
@@ -82,19 +82,19 @@ module _ (b : Book) (tm : Tracematch) (rd : Read b tm) (s : State) (h : Reached 
   decided =
       rw (sound-by b tm rd s h (l .bytes), room-by b tm rd s h now, rows-by b tm rd s h now)
       (go (isRecord (l .bytes)) refl (eqb (s .number) eventLimit) refl (room (bookOf tm) (s .held) now) refl
-      (ltb (length (l .buffer)) (l .place + 24 * length valuations)) refl)
+      (ltb (length (l .buffer)) (l .place + rowSize * length valuations)) refl)
     where
       below : eqb (s .number) eventLimit ≡ false → s .number < eventLimit
       below f = omega (arith, number-within (bookOf tm) s (h .sound), eqb-false (s .number) eventLimit f)
 
       go : (p : Bool) → isRecord (l .bytes) ≡ p → (q : Bool) → eqb (s .number) eventLimit ≡ q → (r : Bool) → room (bookOf tm) (s .held) now ≡ r
-          → (t : Bool) → ltb (length (l .buffer)) (l .place + 24 * length valuations) ≡ t
+          → (t : Bool) → ltb (length (l .buffer)) (l .place + rowSize * length valuations) ≡ t
           → Decision tm s l (cond (not p) OutOfForm (cond q TooMany (cond (not r) NoRoom (cond t NoSpace Accepted))))
       go false e q f r g t k = outOfForm e
       go true e true f r g t k = tooMany e (eqb-true _ eventLimit f)
       go true e false f false g t k = noRoom e (below f) g
       go true e false f true g true k = noSpace e (below f) g (ltb-true _ _ k)
-      go true e false f true g false k = accepted e (below f) g (omega (arith, ltb-false (length (l .buffer)) (l .place + 24 * length valuations) k))
+      go true e false f true g false k = accepted e (below f) g (omega (arith, ltb-false (length (l .buffer)) (l .place + rowSize * length valuations) k))
 
 -- the plain state behind a call
 abbrev pub after : Tracematch → State → Made → State
@@ -230,7 +230,7 @@ accepted-at tm {s} (call {m = m₀} {ms = ms} d c) i m h = go (wasAccepted m₀)
 
 -- what acceptance says of the record and of the buffer
 pub accepted-parts : (tm : Tracematch) (s : State) (l : Lent) (a : EventAnswer) → Decision tm s l a → isAccepted a ≡ true
-    → (isRecord (l .bytes) ≡ true) × (l .place + 24 * length (rows (bookOf tm) (s .held) (eventIn (l .bytes))) ≤ length (l .buffer))
+    → (isRecord (l .bytes) ≡ true) × (l .place + rowSize * length (rows (bookOf tm) (s .held) (eventIn (l .bytes))) ≤ length (l .buffer))
 accepted-parts tm s l a (outOfForm x) h = absurd (false≢true h)
 accepted-parts tm s l a (tooMany x y) h = absurd (false≢true h)
 accepted-parts tm s l a (noRoom x y z) h = absurd (false≢true h)

@@ -2,7 +2,7 @@
 -- and the valuation alone. For Crossed.
 use mathlib.Core.Path.{_≡_, refl}
 use mathlib.Core.List.{List, [], _∷_, _++_, append-assoc, List·Memᴰ, List·Memᴰ·head, List·Memᴰ·tail}
-use Prim.Native.Nat.{ℕ, zero, suc, _+_, _*_, _≤_, _<_}
+use Prim.Native.Nat.{ℕ, zero, suc, _+_, _-_, _*_, _≤_, _<_}
 use native.Mathlib.Omega.{arith}
 use lib.ListN.{length, take, drop, getD, length-append}
 use lib.Seq.{take-at, drop-at, drop-append-add, length-take-le}
@@ -11,7 +11,7 @@ use Rattle.laws.specs.Parts.{front, splice, pad}
 use Rattle.laws.proofs.Parts.{pad-length}
 use Rattle.meaning.specs.Events.{Valuation}
 use Rattle.form.specs.Text.{Bytes}
-use Rattle.writer.specs.RowBytes.{wordBytes, rowBytes}
+use Rattle.writer.specs.RowBytes.{rowSize, numberSize, wordBytes, rowBytes}
 use Rattle.writer.proofs.RowBytes.{gather-length, word-length}
 
 -- variable count, three zeros, four values
@@ -28,21 +28,21 @@ row-split n v σ = refl
 
 -- in the bytes of rows
 rows-tail : (n v : ℕ) (l : List Valuation) → ((σ : Valuation) → List·Memᴰ σ l → length σ ≤ 4) → (rest : Bytes) (i : ℕ) → i < length l
-    → take 20 (drop (24 * i + 4) (gather (rowBytes n v) l ++ rest)) ≡ tail v (getD l i [])
+    → take (rowSize - numberSize) (drop (rowSize * i + numberSize) (gather (rowBytes n v) l ++ rest)) ≡ tail v (getD l i [])
 rows-tail n v [] few rest i h = absurd (omega arith)
 rows-tail n v (σ ∷ l) few rest zero h =
     rw (row-split n v σ, append-assoc (wordBytes n ++ tail v σ), append-assoc (wordBytes n), drop-at (wordBytes n) _ 4 (word-length n))
     (take-at (tail v σ) _ 20 (tail-length v σ (few σ (List·Memᴰ·head refl))))
 rows-tail n v (σ ∷ l) few rest (suc i) h =
-    let size : length (rowBytes n v σ) + (24 * i + 4) ≡ 24 * suc i + 4 =
+    let size : length (rowBytes n v σ) + (rowSize * i + 4) ≡ rowSize * suc i + 4 =
     rw (row-split n v σ, length-append, word-length, tail-length v σ (few σ (List·Memᴰ·head refl))) (omega arith) in
     rw (← size, append-assoc, drop-append-add (rowBytes n v σ)) (rows-tail n v l (λ τ m. few τ (List·Memᴰ·tail m)) rest i (omega arith))
 
 -- in a buffer from a place on
 pub buffer-tail : (n v : ℕ) (l : List Valuation) → ((σ : Valuation) → List·Memᴰ σ l → length σ ≤ 4) → (place : ℕ) (buffer : Bytes)
     → place ≤ length buffer → (i : ℕ) → i < length l
-    → take 20 (drop (place + 24 * i + 4) (splice place (gather (rowBytes n v) l) buffer)) ≡ tail v (getD l i [])
+    → take (rowSize - numberSize) (drop (place + rowSize * i + numberSize) (splice place (gather (rowBytes n v) l) buffer)) ≡ tail v (getD l i [])
 unfolding splice front
 buffer-tail n v l few place buffer h i k =
-    let start : length (take place buffer) + (24 * i + 4) ≡ place + 24 * i + 4 = omega (arith, length-take-le place buffer h) in
+    let start : length (take place buffer) + (rowSize * i + 4) ≡ place + rowSize * i + 4 = omega (arith, length-take-le place buffer h) in
     rw (← start, drop-append-add) (rows-tail n v l few _ i k)

@@ -35,7 +35,7 @@ use Rattle.state.specs.States.{stateOf, heldFirst, viewState}
 use Rattle.sound.specs.Soundness.{symbolCounts, bookCounts, bookSound, slotCounts, stateCounts, stateSound}
 use Rattle.calls.specs.Calls.{freshState, rowsBy, stateBy, leavesFreeBy, roomBy, unsound, outOfForm, tooMany, noRoom, noSpace, answerTo, taken}
 use Rattle.calls.specs.Runs.{make, recordsOf, Partners, InOrder, Crossed}
-use Rattle.calls.specs.Witness.{text, declared, pattern, tm, load, drop, xs, ys, runX, runY, answers, counts}
+use Rattle.calls.specs.Witness.{text, declared, pattern, tm, load, dropped, xs, ys, runX, runY, answers, counts}
 use Rattle.calls.proofs.Crossed.{crossed}
 
 proper : Proper tm
@@ -65,10 +65,10 @@ form = record {
 
 -- the records that they accept
 abbrev sentX : List Bytes
-sentX = load 1 7 ∷ load 2 8 ∷ drop 1 ∷ drop 2 ∷ []
+sentX = load 1 7 ∷ load 2 8 ∷ dropped 1 ∷ dropped 2 ∷ []
 
 abbrev sentY : List Bytes
-sentY = load 2 8 ∷ load 1 7 ∷ drop 2 ∷ drop 1 ∷ []
+sentY = load 2 8 ∷ load 1 7 ∷ dropped 2 ∷ dropped 1 ∷ []
 
 pub computed : (recordsOf runX ≡ sentX) × (recordsOf runY ≡ sentY) × (answers runX ≡ 0 ∷ 0 ∷ 0 ∷ 0 ∷ []) × (answers runY ≡ 0 ∷ 10 ∷ 0 ∷ 0 ∷ 0 ∷ [])
     × (counts runX ≡ 0 ∷ 0 ∷ 1 ∷ 1 ∷ []) × (counts runY ≡ 0 ∷ 0 ∷ 1 ∷ 1 ∷ [])
@@ -93,7 +93,7 @@ apart-loads : Dependent tm (eventIn (load 1 7)) (eventIn (load 2 8)) → ⊥
 unfolding eventIn argumentsIn wordAt
 apart-loads c = omega (arith, of-load 1 7 (c .common) (c .first), of-load 2 8 (c .common) (c .second))
 
-apart-drops : Dependent tm (eventIn (drop 1)) (eventIn (drop 2)) → ⊥
+apart-drops : Dependent tm (eventIn (dropped 1)) (eventIn (dropped 2)) → ⊥
 unfolding eventIn argumentsIn wordAt
 apart-drops c = omega (arith, of-drop 1 (c .common) (c .first), of-drop 2 (c .common) (c .second))
 

@@ -19,7 +19,7 @@ use Rattle.book.specs.Books.{viewBook}
 use Rattle.state.specs.declared.State.{State}
 use Rattle.state.specs.States.{stateOf, heldFirst, viewState}
 use Rattle.sound.specs.Soundness.{bookSound, stateSound}
-use Rattle.writer.specs.RowBytes.{rowBytes}
+use Rattle.writer.specs.RowBytes.{rowSize, rowBytes}
 use Rattle.tally.specs.declared.Tally.{Tally}
 use Rattle.tally.specs.Tallies.{tallied}
 use Rattle.calls.specs.Answers.{Check, firstOf}
@@ -84,7 +84,7 @@ module _ (b : Book) (s : State) (record-bytes : Bytes) where
   module _ (buffer : Bytes) (place : ℕ) where
     -- 13: "row buffer too short, or start place beyond it"
     unfoldable pub noSpace : Bool
-    noSpace = ltb (length buffer) (place + 24 * length (rowsBy b s (eventIn record-bytes)))
+    noSpace = ltb (length buffer) (place + rowSize * length (rowsBy b s (eventIn record-bytes)))
 
     unfoldable pub answerTo : EventAnswer
     answerTo = firstOf (decisions ++ (record { fails = noSpace; answer = NoSpace } ∷ []))

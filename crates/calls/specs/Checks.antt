@@ -16,6 +16,7 @@ use Rattle.book.specs.declared.Book.{Book}
 use Rattle.book.specs.Books.{viewBook}
 use Rattle.state.specs.declared.State.{State}
 use Rattle.state.specs.States.{heldFirst}
+use Rattle.writer.specs.RowBytes.{rowSize}
 use Rattle.sound.specs.Soundness.{bookSound, stateSound}
 
 module _ (b : Book) (s : State) (bytes : Bytes) where
@@ -43,7 +44,7 @@ module _ (b : Book) (s : State) (bytes : Bytes) where
 
   -- 13: "row buffer too short, or start place beyond it"
   abbrev pub NoSpace : (buffer : Bytes) (place : ℕ) → Type 0
-  NoSpace buffer place = length buffer < place + 24 * length rowsDue
+  NoSpace buffer place = length buffer < place + rowSize * length rowsDue
 
   -- "Events: 9 to 13 in that order": n is the number of the first that fails, and 0 where none does
   pub record FirstFailing (buffer : Bytes) (place : ℕ) (n : ℕ) : Type 0 where

@@ -12,12 +12,13 @@ use Rattle.meaning.specs.Meaning.{Tracematch}
 use Rattle.meaning.specs.Book.{bookOf}
 use Rattle.meaning.specs.Labels.{Held, newHeld}
 use Rattle.meaning.specs.Room.{Broken}
+use Rattle.meaning.specs.Sound.{eventLimit}
 use Rattle.meaning.specs.Runs.{Listed, Pairing, Ordered}
 use Rattle.form.specs.Text.{Bytes, isBytes}
 use Rattle.record.specs.Records.{isRecord, eventIn}
 use Rattle.book.specs.declared.Book.{Book}
 use Rattle.state.specs.declared.State.{State}
-use Rattle.writer.specs.RowBytes.{rowBytes}
+use Rattle.writer.specs.RowBytes.{rowSize, numberSize, rowBytes}
 use Rattle.tally.specs.declared.Tally.{Tally}
 use Rattle.tally.specs.Tallies.{tallied}
 use Rattle.calls.specs.Calls.{isAccepted, taken, bufferAfter, freshState}
@@ -92,7 +93,7 @@ pub record Delivered (tm : Tracematch) (t : List Event) (n : ℕ) (m : Made) : T
   pub valuations : List Valuation
   pub meant : Listed tm t n valuations
   pub counted : m .taken .rows ≡ length valuations
-  pub fitting : m .lent .place + 24 * length valuations ≤ length (m .lent .buffer)
+  pub fitting : m .lent .place + rowSize * length valuations ≤ length (m .lent .buffer)
   pub written : m .buffer ≡ splice (m .lent .place) (gather (rowBytes n (tm .variables)) valuations) (m .lent .buffer)
   pub tallies : m .taken .tally ≡ tallied (m .lent .tally) 1 0 (length valuations)
   pub numbered : m .taken .state .number ≡ n
@@ -108,17 +109,17 @@ heldAfter tm t = heldFrom tm [] t
 -- "row buffer too short, or start place beyond it": the rows of the event that follows the trace t do not fit from the place on
 pub data TooShort (tm : Tracematch) (t : List Event) (e : Event) (buffer : Bytes) (place : ℕ) : Type 0 where
   beyond : length buffer < place → TooShort tm t e buffer place
-  over : (l : List Valuation) → Listed tm (t ++ (e ∷ [])) (suc (length t)) l → place ≤ length buffer → length buffer - place < 24 * length l
+  over : (l : List Valuation) → Listed tm (t ++ (e ∷ [])) (suc (length t)) l → place ≤ length buffer → length buffer - place < rowSize * length l
       → TooShort tm t e buffer place
 
 -- the number of the answer to a call after the trace t of a read book: "Events: 9 to 13 in that order", and never 9
 pub data Judged (tm : Tracematch) (t : List Event) (l : Lent) : ℕ → Type 0 where
   outOfForm : isRecord (l .bytes) ≡ false → Judged tm t l 10
-  tooMany : isRecord (l .bytes) ≡ true → length t ≡ 1000000 → Judged tm t l 11
-  noRoom : isRecord (l .bytes) ≡ true → length t < 1000000 → Broken (bookOf tm) (heldAfter tm t) (eventIn (l .bytes)) → Judged tm t l 12
-  noSpace : isRecord (l .bytes) ≡ true → length t < 1000000 → (Broken (bookOf tm) (heldAfter tm t) (eventIn (l .bytes)) → ⊥)
+  tooMany : isRecord (l .bytes) ≡ true → length t ≡ eventLimit → Judged tm t l 11
+  noRoom : isRecord (l .bytes) ≡ true → length t < eventLimit → Broken (bookOf tm) (heldAfter tm t) (eventIn (l .bytes)) → Judged tm t l 12
+  noSpace : isRecord (l .bytes) ≡ true → length t < eventLimit → (Broken (bookOf tm) (heldAfter tm t) (eventIn (l .bytes)) → ⊥)
       → TooShort tm t (eventIn (l .bytes)) (l .buffer) (l .place) → Judged tm t l 13
-  accepted : isRecord (l .bytes) ≡ true → length t < 1000000 → (Broken (bookOf tm) (heldAfter tm t) (eventIn (l .bytes)) → ⊥)
+  accepted : isRecord (l .bytes) ≡ true → length t < eventLimit → (Broken (bookOf tm) (heldAfter tm t) (eventIn (l .bytes)) → ⊥)
       → (TooShort tm t (eventIn (l .bytes)) (l .buffer) (l .place) → ⊥) → Judged tm t l 0
 
 -- "Partners are accepted events with the same 20 bytes, one in each run; each accepted event has exactly one partner." Records of
@@ -130,6 +131,10 @@ Partners t u = Pairing [] t u
 abbrev pub InOrder : (tm : Tracematch) (t u : List Bytes) → Partners t u → Type 0
 InOrder tm t u p = Ordered [] eventIn tm t u p
 
+-- "bytes 4 to 23" of the row that begins at p: all of it but the event number
+abbrev pub behindNumber : ℕ → Bytes → Bytes
+behindNumber p buffer = take (rowSize - numberSize) (drop (p + numberSize) buffer)
+
 -- Demand 3 for partners, the n-th of the trace t and the k-th of the trace u: both have demand 2's rows, these are the same
 -- valuations, and "bytes 4 to 23 of their rows are equal, first row to last, as each call left them".
 pub record Alike (tm : Tracematch) (t u : List Event) (n k : ℕ) (a c : Made) : Type 0 where
@@ -138,7 +143,7 @@ pub record Alike (tm : Tracematch) (t u : List Event) (n k : ℕ) (a c : Made) :
   pub valuations : left .valuations ≡ right .valuations
   pub counts : a .taken .rows ≡ c .taken .rows
   pub bytes : (i : ℕ) → i < a .taken .rows
-      → take 20 (drop (a .lent .place + 24 * i + 4) (a .buffer)) ≡ take 20 (drop (c .lent .place + 24 * i + 4) (c .buffer))
+      → behindNumber (a .lent .place + rowSize * i) (a .buffer) ≡ behindNumber (c .lent .place + rowSize * i) (c .buffer)
 
 -- Demand 3 as one claim about two whole runs: each accepted call of the first has a partner in the second, and the two are alike.
 pub record Crossed (tm : Tracematch) (xs ys : List Made) (p : Partners (recordsOf xs) (recordsOf ys)) : Type 0 where

@@ -1,15 +1,15 @@
 -- Theorem `starred`, about the whole table: every starred roast of document 01, its text read and its records taken, comes out as
 -- document 01 has it, by computation from the very definitions that the contracts of `read` and `event` cite (`computed`); and this
 -- is what the meanings say: rows of the declarative meaning, answers by the stated rules, numbers and places by the rules for texts.
-use mathlib.Core.Path.{_≡_, refl, sym, ap, _∙_}
+use mathlib.Core.Path.{_≡_, refl, ap}
 use mathlib.Core.Bool.{Bool, true, _&&_}
-use mathlib.Core.List.{List, [], _∷_, map, List·Memᴰ, List·Memᴰ·head, List·Memᴰ·tail}
+use mathlib.Core.List.{List, [], _∷_, map, List·Memᴰ}
 use Prim.Native.Nat.{ℕ}
 use Prim.Native.String.{String}
 use Rattle.laws.specs.Bits.{bit, join, meet, single}
 use Rattle.laws.specs.Lists.{all}
 use Rattle.laws.specs.Parts.{front, splice, pad}
-use Rattle.laws.proofs.Lists.{all-at, and-true-split}
+use Rattle.laws.proofs.Lists.{all-at, and-true-split, map-at}
 use Rattle.meaning.specs.Events.{matches, constraintOf}
 use Rattle.meaning.specs.Book.{soundBook, soundSymbol}
 use Rattle.meaning.specs.Labels.{compareDisjuncts, skipBy, sources, stepSet, skipSet, newLabel, newHeld}
@@ -59,11 +59,6 @@ bytes : all inBytes table ≡ true
 unfolding table pad
 bytes = refl
 
--- two functions that give the same list agree at its elements
-same-at : {A B : Type 0} (f g : A → B) {x : A} {l : List A} → map f l ≡ map g l → List·Memᴰ x l → f x ≡ g x
-same-at f g {l = y ∷ l} h (List·Memᴰ·head e) = let k : f y ≡ g y = cc in ap f e ∙ k ∙ ap g (sym e)
-same-at f g {l = y ∷ l} h (List·Memᴰ·tail m) = let k : map f l ≡ map g l = cc in same-at f g k m
-
 -- the number of the first line
 abbrev firstNumber : List Back → ℕ
 firstNumber [] = 0
@@ -84,4 +79,4 @@ meant (late t k l) h o = rw (late-number t k l o) at (first-failing (reading (as
 meant (reads t n p) h o = rw (ap (λ x. x .number) o, ap (λ x. x .place) o) at (refused (ascii t) (all-at inBytes bytes h))
 
 pub starred : (e : Entry) → List·Memᴰ e table → (outcome e ≡ wanted e) × Meant e
-starred e h = let o = same-at outcome wanted computed h in (o, meant e h o)
+starred e h = let o = map-at outcome wanted computed h in (o, meant e h o)

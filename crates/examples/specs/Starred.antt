@@ -14,6 +14,7 @@ use Rattle.book.specs.Answers as Reading
 use Rattle.book.specs.Books.{reading}
 use Rattle.state.specs.declared.State.{State}
 use Rattle.state.specs.States.{stateOf}
+use Rattle.writer.specs.RowBytes.{rowSize}
 use Rattle.calls.specs.Answers.{numberOf}
 use Rattle.calls.specs.Checks.{FirstFailing}
 use Rattle.calls.specs.Runs.{Call, event, Made, make, runOf, acceptedIn, traceOf, Within, Delivered, Judged}
@@ -22,7 +23,7 @@ use Rattle.calls.specs.Runs.{Call, event, Made, make, runOf, acceptedIn, traceO
 abbrev word : ℕ → Bytes
 word x = x % 256 ∷ x / 256 % 256 ∷ x / 65536 % 256 ∷ x / 16777216 % 256 ∷ []
 
--- an event record, and the 24 bytes of a row: event number, values
+-- an event record, and the bytes of a row: event number, values
 abbrev pub sent : ℕ → List ℕ → Bytes
 sent kind args = kind ∷ length args ∷ 0 ∷ 0 ∷ pad 16 0 (gather word args)
 
@@ -59,7 +60,7 @@ pub record Outcome : Type 0 where
 
 -- the row buffer of every call: room for two rows
 abbrev pub buffer : Bytes
-buffer = replicate (2 * 24) 255
+buffer = replicate (2 * rowSize) 255
 
 -- a call that lends the record, the buffer from place 0 on, and an empty tally
 abbrev pub callOf : Line → Call

@@ -1,7 +1,7 @@
 // The pure step of an event: the checks 9 to 12, the next state and the rows. Nothing is written to a row buffer here: the crate watch
 // does that, once every check has passed.
 use book::Book;
-use constraint::Constraint;
+use constraint::Constraints;
 use record::Event;
 use state::State;
 ghost use mathlib.Core.Path.{_≡_};
@@ -11,6 +11,8 @@ ghost use Prim.Native.Nat.{ℕ, _≤_, _<_};
 ghost use lib.ListN.{take, getD};
 ghost use Rattle.meaning.specs.Events as Events;
 ghost use Rattle.meaning.specs.Book.{followers};
+ghost use Rattle.meaning.specs.Limits.{argumentLimit};
+ghost use Rattle.meaning.specs.Sound.{eventLimit};
 ghost use Rattle.work.specs.Wide.{wideHeld};
 ghost use Rattle.record.specs.Records.{eventIn, viewEvent};
 ghost use Rattle.constraint.specs.Constraints.{viewConstraint, noConstraint, Ready};
@@ -43,13 +45,13 @@ fn refusal(number: usize, state: State) -> Stepped
 fn moved(
     book: Book,
     state: State,
-    cs: [Constraint; 16],
-    held: &[u32; 3584],
-    at: &[u32; 128],
-    masks: &[u32; 128],
-    out: &mut [u32; 8256],
+    cs: Constraints,
+    held: &sets::Words,
+    at: &[u32; state::PLACES],
+    masks: &[u32; state::PLACES],
+    out: &mut rows::Words,
 ) -> Stepped
-    requires { ⌜ (bookSound book ≡ true) × (stateSound book state ≡ true) × (state .number < 1000000)
+    requires { ⌜ (bookSound book ≡ true) × (stateSound book state ≡ true) × (state .number < eventLimit)
         × (heldIn (state .count) (now at) (now held) ≡ map wideHeld (heldFirst (book .variables) state))
         × (take (state .count) (now masks) ≡ map (followers (viewBook book)) (take (state .count) (now at)))
         × ((i : ℕ) → i < book .symbols → Ready (getD cs i noConstraint)) ⌝ }
@@ -57,10 +59,10 @@ fn moved(
         → (r .number ≡ cond (roomBy book state e) 0 12) × (r .number ≡ 0 → Moved book state e (r .state) (r .rows) (now (out .exit)))) ⌝ }
 {
     let n = state.count;
-    let mut next = [0u32; 3584];
-    let mut next_at = [0u32; 128];
+    let mut next = [0u32; sets::WORDS];
+    let mut next_at = [0u32; state::PLACES];
     let k = advance::advance(book, cs, held, at, masks, n, &mut next, &mut next_at);
-    if 128 < k {
+    if state::PLACES < k {
         return refusal(12, state);
     }
     let rows = collect::collect(book, cs, held, at, masks, n, out);
@@ -73,30 +75,30 @@ fn moved(
 }
 
 // An event of a sound book in a sound state.
-fn judged(book: Book, state: State, e: Event, out: &mut [u32; 8256]) -> Stepped
-    requires { ⌜ (bookSound book ≡ true) × (stateSound book state ≡ true) × (e .count ≤ 4) ⌝ }
+fn judged(book: Book, state: State, e: Event, out: &mut rows::Words) -> Stepped
+    requires { ⌜ (bookSound book ≡ true) × (stateSound book state ≡ true) × (e .count ≤ argumentLimit) ⌝ }
     ensures { λ r. ⌜ (r .number ≡ judgedNumber book state (viewEvent e))
         × (r .number ≡ 0 → Moved book state (viewEvent e) (r .state) (r .rows) (now (out .exit))) ⌝ }
 {
     let table = book.table;
     let follows = book.follows;
     let cs = constraint::constraints(table, book.symbols, e);
-    let mut held = [0u32; 3584];
-    let mut at = [0u32; 128];
-    let mut masks = [0u32; 128];
+    let mut held = [0u32; sets::WORDS];
+    let mut at = [0u32; state::PLACES];
+    let mut masks = [0u32; state::PLACES];
     state::load(state, book.variables, &mut at, &mut held);
     step::follow_masks(follows, &at, state.count, &mut masks);
     if collect::leaves_free(book, cs, &held, &at, &masks, state.count) {
         return refusal(9, state);
     }
-    if state.number == 1000000 {
+    if state.number == state::EVENTS {
         return refusal(11, state);
     }
     moved(book, state, cs, &held, &at, &masks, out)
 }
 
 // Any record with any book and state.
-pub fn step(book: Book, state: State, bytes: &[u8], out: &mut [u32; 8256]) -> Stepped
+pub fn step(book: Book, state: State, bytes: &[u8], out: &mut rows::Words) -> Stepped
     ensures { λ r. ⌜ (r .number ≡ numberOf (firstOf (decisions book state (now (bytes .entry)))))
         × (r .number ≡ 0 → Moved book state (eventIn (now (bytes .entry))) (r .state) (r .rows) (now (out .exit))) ⌝ }
 {

@@ -22,7 +22,7 @@ use Rattle.state.specs.States.{stateOf, viewState}
 use Rattle.sound.specs.Soundness.{bookSound}
 use Rattle.rows.specs.Valuations.{valuationsIn}
 use Rattle.rows.proofs.Valuations as Words
-use Rattle.writer.specs.RowBytes.{rowBytes}
+use Rattle.writer.specs.RowBytes.{rowSize, rowBytes}
 use Rattle.writer.proofs.RowBytes.{row-wide}
 use Rattle.tally.specs.declared.Tally.{Tally}
 use Rattle.tally.specs.Tallies.{tallied}
@@ -109,19 +109,19 @@ module _ (b : Book) (s : State) (r buffer : Bytes) (place : ℕ) where
     told e = answer-passed passed ∙ ap (λ x. cond x NoSpace Accepted) e
 
     -- refused by the buffer's check
-    pub ends-short : (t : Tally) → leb (place + 24 * n) (length buffer) ≡ false → {x : Taken} → x ≡ refusal t 13
+    pub ends-short : (t : Tally) → leb (place + rowSize * n) (length buffer) ≡ false → {x : Taken} → x ≡ refusal t 13
         → (x ≡ taken b s r buffer place t) × (buffer ≡ bufferAfter b s r buffer place)
     unfolding noSpace answerOf
     ends-short t h =
-        let k = leb-false (place + 24 * n) (length buffer) h in
-        let a = told (lt-ltb (length buffer) (place + 24 * length its-rows) (rw (← moved .counted) k)) in
+        let k = leb-false (place + rowSize * n) (length buffer) h in
+        let a = told (lt-ltb (length buffer) (place + rowSize * length its-rows) (rw (← moved .counted) k)) in
         ends-not t 13 a (ap isAccepted a)
 
-    accepted : leb (place + 24 * n) (length buffer) ≡ true → answerTo b s r buffer place ≡ Accepted
+    accepted : leb (place + rowSize * n) (length buffer) ≡ true → answerTo b s r buffer place ≡ Accepted
     unfolding noSpace
     accepted h =
-        let k = leb-true (place + 24 * n) (length buffer) h in
-        told (le-ltb (length buffer) (place + 24 * length its-rows) (rw (← moved .counted) k))
+        let k = leb-true (place + rowSize * n) (length buffer) h in
+        told (le-ltb (length buffer) (place + rowSize * length its-rows) (rw (← moved .counted) k))
 
     next-number : next .number ≡ suc (s .number)
     unfolding stateBy stateOf viewState
@@ -143,7 +143,7 @@ module _ (b : Book) (s : State) (r buffer : Bytes) (place : ℕ) where
         ∙ gather-agree (λ σ. f (wideValuation σ)) f its-rows (λ σ m. row-wide (suc (s .number)) (b .variables) σ (row-few σ m))
 
     -- accepted
-    pub ends-accepted : (t : Tally) → leb (place + 24 * n) (length buffer) ≡ true → {u : Tally} → u ≡ tallied t 1 0 n
+    pub ends-accepted : (t : Tally) → leb (place + rowSize * n) (length buffer) ≡ true → {u : Tally} → u ≡ tallied t 1 0 n
         → {out : Bytes} → out ≡ splice place (gather (rowBytes (next .number) (b .variables)) (take n (valuationsIn words))) buffer
         → (record { answer = Accepted; rows = n; book = b; state = next; tally = u } ≡ taken b s r buffer place t)
         × (out ≡ bufferAfter b s r buffer place)
@@ -153,10 +153,10 @@ module _ (b : Book) (s : State) (r buffer : Bytes) (place : ℕ) where
         (rw (e, a, ← moved .counted, ← moved .after), f ∙ rw (a, rows-written))
 
 -- whether the rows fit, as the code tests it
-pub fits-behind : (size place rows : ℕ) → place ≤ size → leb rows ((size - place) / 24) ≡ leb (place + 24 * rows) size
+pub fits-behind : (size place rows : ℕ) → place ≤ size → leb rows ((size - place) / rowSize) ≡ leb (place + rowSize * rows) size
 fits-behind size place rows h =
-    same-test _ _ (λ e. le-leb (place + 24 * rows) size (omega (arith, leb-true rows ((size - place) / 24) e)))
-    (λ e. le-leb rows ((size - place) / 24) (omega (arith, leb-true (place + 24 * rows) size e)))
+    same-test _ _ (λ e. le-leb (place + rowSize * rows) size (omega (arith, leb-true rows ((size - place) / rowSize) e)))
+    (λ e. le-leb rows ((size - place) / rowSize) (omega (arith, leb-true (place + rowSize * rows) size e)))
 
-pub fits-not : (size place rows : ℕ) → size < place → false ≡ leb (place + 24 * rows) size
-fits-not size place rows h = sym (lt-leb (place + 24 * rows) size (omega arith))
+pub fits-not : (size place rows : ℕ) → size < place → false ≡ leb (place + rowSize * rows) size
+fits-not size place rows h = sym (lt-leb (place + rowSize * rows) size (omega arith))

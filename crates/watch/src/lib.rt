@@ -12,6 +12,7 @@ ghost use mathlib.Core.Bool.{true};
 ghost use Prim.Native.Nat.{_+_, _*_};
 ghost use lib.Dec.{leb};
 ghost use Rattle.form.specs.Text.{isBytes};
+ghost use Rattle.writer.specs.RowBytes.{rowSize};
 ghost use Rattle.tally.specs.Tallies.{tallied};
 ghost use Rattle.calls.specs.Answers.{numberOf, placeOf};
 ghost use Rattle.watch.specs.Inner.{answerOf};
@@ -54,10 +55,10 @@ fn refused(number: usize, book: Book, state: State, tally: Tally) -> Taken
 
 // Whether so many rows fit from the place on.
 fn fits(size: usize, place: usize, rows: usize) -> bool
-    ensures { λ r. ⌜ r ≡ leb (place + 24 * rows) size ⌝ }
+    ensures { λ r. ⌜ r ≡ leb (place + rowSize * rows) size ⌝ }
 {
     if place <= size {
-        return rows <= (size - place) / 24;
+        return rows <= (size - place) / writer::ROW;
     }
     false
 }
@@ -75,7 +76,7 @@ pub fn event(
         × (now (rows .exit) ≡ bufferAfter book state (now (bytes .entry)) (now (rows .entry)) place)
         × (isBytes (now (bytes .entry)) ≡ true) ⌝ }
 {
-    let mut words = [0u32; 8256];
+    let mut words = [0u32; rows::WORDS];
     let s = transition::step(book, state, bytes, &mut words);
     let n = s.rows;
     if s.number != 0 {
