@@ -137,15 +137,22 @@ find-requires c κs =
       rw names-symbols (within _ _ r),
     )
 
+-- the stops before the name is looked for: its end, and the beginning
+abbrev ended : tie.After-find → tie.After-name-end
+ended c = c .before .before .before .before
+
+abbrev begun : tie.After-find → tie.Start
+begun c = ended c .before .before
+
 -- what is left to say once the name has been looked for
-known-name : (c : tie.After-find) → let x = c .before .before .before .before .before .before .args in
+known-name : (c : tie.After-find) → let x = begun c .args in
     let l = viewTable (x .t2) .symbols in
-    let e = c .before .before .before .before .name-end .result in
+    let e = ended c .name-end .result in
     Parse.nameAtom (x .s .now) l (x .used) (x .q)
     ≡ cond (ltb (c .find .result) (length l)) (record { step = go e; tree = lit (c .find .result) }) (Parse.failed (fail 5 (x .q)))
 known-name c =
-    let x = c .before .before .before .before .before .before .args in
-    let n = c .before .before .before .before .name-end in
+    let x = begun c .args in
+    let n = ended c .name-end in
     name-at (x .s .now) (viewTable (x .t2) .symbols) (x .used) (x .q) (n .result) (c .find .result) (n .ensures)
     (c .before .before .before .if1 .left) (c .before .before .if2 .left) (rw (← names-symbols (x .t2)) (c .find .ensures))
 
@@ -157,8 +164,9 @@ element-copy-out-y c = search needs
 
 bound-in-requires : tie.Need-bound-in-requires
 bound-in-requires c κs =
-    let start = c .before .before .before .before .before .before .before .before in
-    fits (start .args .s .now) (start .args .t2) (start .pre .ready) (c .before .before .find .result) (c .before .if3 .taken) _
+    let f = c .before .before in
+    let start = begun f in
+    fits (start .args .s .now) (start .args .t2) (start .pre .ready) (f .find .result) (c .before .if3 .taken) _
 
 add-literal : tie.Need-add-literal
 add-literal c = search needs
@@ -172,15 +180,16 @@ literal-requires c κs = search needs
 returns-3 : tie.Need-returns-3
 unfolding parsedOf
 returns-3 c =
-    let start = c .before .before .before .before .before .before .before .before .before .before in
+    let f = c .before .before .before .before in
+    let start = begun f in
     let s = start .args .s .now in
     let t = start .args .t2 in
-    let a = c .before .before .before .before .find .result in
+    let a = f .find .result in
     let h = c .before .before .before .if3 .taken in
     let r = start .pre .ready in
     let b = c .before .bound-in .ensures ∙ ap (λ y. boundIn (y .places)) (viewed s t r a h _) in
     rw (
-      known-name (c .before .before .before .before),
+      known-name f,
       named s t r,
       lt-ltb a (t .count) h,
       ← add-one (start .args .used),
@@ -192,11 +201,12 @@ failed-requires-3 c κs = search needs
 
 returns-4 : tie.Need-returns-4
 returns-4 c =
-    let start = c .before .before .before .before .before .before .before .before in
+    let f = c .before .before in
+    let start = begun f in
     let s = start .args .s .now in
     let t = start .args .t2 in
-    let a = c .before .before .find .result in
-    rw (known-name (c .before .before), named s t (start .pre .ready), le-ltb a (t .count) (c .before .if3 .left))
+    let a = f .find .result in
+    rw (known-name f, named s t (start .pre .ready), le-ltb a (t .count) (c .before .if3 .left))
     (c .failed3 .ensures ∙ failed-parsed _ _ 5 _ (omega arith))
 
 pub name-atom-spec : {M : Type 1} → statement M
