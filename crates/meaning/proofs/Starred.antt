@@ -1,4 +1,4 @@
--- The rows of the starred roasts that are event runs, as Answers computes them, are those of the declarative meaning (`starred-listed`):
+-- The rows of the starred roasts that are event runs, as Anchors computes them, are those of the declarative meaning (`starred-listed`):
 -- their tracematches are proper and their events well formed, so that `listed` applies.
 use mathlib.Core.Path.{_≡_, refl, sym, ap, ap₂, _∙_}
 use mathlib.Core.Bool.{Bool, true, false, cond, _&&_}
@@ -16,7 +16,7 @@ use Rattle.meaning.specs.Runs.{Call, traceOf, given, rowLists, Listed}
 use Rattle.meaning.specs.Starred.{Case, accepted, noRoom, answers, table, callsOf, rowsOf}
 use Rattle.meaning.proofs.ProperTest.{proper-test}
 use Rattle.meaning.proofs.Listed.{listed}
-use Rattle.meaning.proofs.Answers.{outcome, wanted, starred}
+use Rattle.meaning.proofs.Anchors.{outcome, wanted, starred}
 
 -- the rows among the answers are those that the run of the calls gives
 answers-given : (b : Book) (held : List Held) (es : List Event) → rowsOf (answers b held es) ≡ given (newHeld b) (rows b) held (callsOf b held es)
