@@ -5,8 +5,11 @@ use Prim.Native.Nat.{ℕ, _≤_}
 use lib.Dec.{leb}
 use lib.ListN.{take}
 use Rattle.laws.specs.Sets.{Grown, full, grown}
+use Rattle.pattern.specs.Positions.{occurrenceLimit}
 use Rattle.meaning.specs.Labels.{Held}
-use Rattle.work.specs.Bounded.{heldOf}
+use Rattle.meaning.specs.Room.{heldLimit}
+use Rattle.form.specs.Limits.{symbolLimit}
+use Rattle.bounded.specs.Bounded.{heldOf}
 use Rattle.sets.specs.Sets.{disjunctsIn}
 use Rattle.book.specs.declared.Book.{Book}
 
@@ -14,11 +17,11 @@ use Rattle.book.specs.declared.Book.{Book}
 unfoldable pub heldIn : ℕ → (at words : List ℕ) → List Held
 heldIn n at w = heldOf (take n at) (take n (disjunctsIn w))
 
--- a count of up to 128 and the words; a greater count is the answer that there is no room
+-- a count within the limit and the words; a greater count is the answer that there is no room
 unfoldable pub heldGrown : ℕ → (at words : List ℕ) → Grown Held
-heldGrown n at w = cond (leb n 128) (grown (heldIn n at w)) full
+heldGrown n at w = cond (leb n heldLimit) (grown (heldIn n at w)) full
 
 -- counts that do not pass the ends of the arrays
 pub record Counts (b : Book) : Type 0 where
-  pub positions : b .positions ≤ 31
-  pub symbols : b .symbols ≤ 16
+  pub positions : b .positions ≤ occurrenceLimit
+  pub symbols : b .symbols ≤ symbolLimit

@@ -1,29 +1,30 @@
 -- The theorems of the Bench level, about what `read`, `name_place` and `name` hand back (their contracts cite `reading`, `namePlace`
 -- and `nameBytes`): a text is accepted iff it is of the stated form, and then the book is what it declares.
-use mathlib.Core.Path.{_≡_, refl, sym, ap, _∙_}
-use mathlib.Core.Bool.{true, false, cond, and-eq-true-iff}
-use mathlib.Core.List.{List, [], map}
+use mathlib.Core.Path.{_≡_, refl, sym, ap, ap₂, _∙_}
+use mathlib.Core.Bool.{true, false, cond, _&&_, and-eq-true-iff, true≢false}
+use mathlib.Core.List.{List, [], _∷_, _++_, map, map-append}
 use mathlib.Core.Logic.{_↔_, _⊎_}
-use Prim.Native.Nat.{ℕ, _+_, _≤_, _<_}
+use Prim.Native.Nat.{ℕ, _+_, _-_, _≤_, _<_}
 use native.Mathlib.Omega.{arith}
 use lib.Dec.{eqb, leb}
-use lib.ListN.{length, getD, take, length-map, List·getD-eq-default, List·getD-map}
-use borrow.Author.Tests.{lt-ltb, ne-eqb, eqb-true, eqb-false}
+use lib.ListN.{length, getD, take, drop, replicate, length-map, length-append, length-take, length-drop, List·getD-eq-default, List·getD-map}
+use borrow.Author.Tests.{lt-ltb, le-leb, ne-eqb, eqb-true, eqb-false}
 use Rattle.laws.specs.Lists.{any, all, keep, numbers}
 use Rattle.laws.specs.Parts.{pad}
-use Rattle.laws.proofs.Lists.{all-at, all-of, length-numbers, either}
+use Rattle.laws.proofs.Lists.{and-true-split, all-at, all-of, all-map, length-numbers, either}
 use Rattle.laws.proofs.Parts.{pad-take}
 use Rattle.pattern.specs.Regex.{Regex, In}
 use Rattle.pattern.specs.Positions as Positions
+use Rattle.pattern.specs.Positions.{occurrenceLimit}
 use Rattle.pattern.proofs.Masks.{symbols-length}
 use Rattle.meaning.specs.Events.{Symbol}
 use Rattle.meaning.specs.Book as Plain
 use Rattle.meaning.specs.Book.{soundSymbol}
 use Rattle.meaning.proofs.Counts.{begin-count, end-count}
 use Rattle.meaning.proofs.Kept.{proper-sound}
-use Rattle.form.specs.Text.{Bytes, matchWord, Declarations, header, tracematchOf, spans}
-use Rattle.form.specs.Limits.{textLimit}
-use Rattle.form.specs.Form.{Shape, Form, allNames, binds}
+use Rattle.form.specs.Text.{Bytes, isName, matchWord, SymbolLine, Declarations, header, tracematchOf, Span, variableSpans, symbolSpans, spans}
+use Rattle.form.specs.Limits.{textLimit, symbolLimit, parameterLimit}
+use Rattle.form.specs.Form.{Shape, Form, symbolNames, allNames, binds}
 use Rattle.form.specs.Scan.{run, isSpace}
 use Rattle.form.specs.Lines.{bytesAt, declaredTable}
 use Rattle.form.specs.Reading.{Outcome, readingOf}
@@ -31,20 +32,20 @@ use Rattle.form.proofs.Accepted as Accepted
 use Rattle.form.proofs.Header.{header-names}
 use Rattle.form.proofs.Outcomes.{known}
 use Rattle.form.proofs.Shapes.{shape-found}
-use Rattle.table.specs.Tables.{namesLimit, tableOf as heldTable, viewTable, nameOf, noName}
+use Rattle.table.specs.Tables.{namesLimit, tableOf as heldTable, symbolOf, viewTable, nameOf, noName, spanOf, inside}
 use Rattle.table.proofs.Codes.{Fits, view-table}
 use Rattle.book.specs.Answers.{numberOf, placeOf, answerOf}
 use Rattle.book.specs.Books.{emptyBook, readingFor, bookFor, reading, viewBook, namePlace, nameBytes}
-use Rattle.book.specs.declared.Answer.{Answer}
+use Rattle.book.specs.declared.ReadingAnswer.{ReadingAnswer}
 use Rattle.book.specs.declared.Reading.{Reading}
 
 -- the enum keeps number and place, where the place is the fixed one of the two answers that have none
 module _ (n p : ℕ) where
-  abbrev Kept : Answer → Type 0
+  abbrev Kept : ReadingAnswer → Type 0
   Kept a = (numberOf a ≡ n) × (placeOf a ≡ p)
 
   -- one test of the chain: the number is k, or it is above k
-  kept-by : (a : Answer) (k : ℕ) (b : Answer) → k ≤ n → (n ≡ k → Kept a) → (k < n → Kept b) → Kept (cond (eqb n k) a b)
+  kept-by : (a : ReadingAnswer) (k : ℕ) (b : ReadingAnswer) → k ≤ n → (n ≡ k → Kept a) → (k < n → Kept b) → Kept (cond (eqb n k) a b)
   kept-by a k b l f g = either Kept (eqb n k) (λ e. f (eqb-true n k e)) λ e. let d = eqb-false n k e in g (omega arith)
 
   kept : n ≤ 8 → (n ≡ 0 → 0 ≡ p) → (n ≡ 1 → textLimit ≡ p) → Kept (answerOf n p)
@@ -84,10 +85,28 @@ pub refusal-book : (s : Bytes) → (numberOf (reading s .answer) ≡ 0 → ⊥)
 unfolding readingFor
 refusal-book s h = rw (ne-eqb (readingOf s .number) 0 λ e. h (answer-number s ∙ e)) (refl, refl, refl)
 
+-- "In an empty book all is zero.": what a refused text leaves, every number of it
+pub empty-book : (s : Bytes) → (numberOf (reading s .answer) ≡ 0 → ⊥)
+    → reading s .book
+    ≡ record {
+      variables = 0;
+      symbols = 0;
+      names = replicate namesLimit (record { start = 0; size = 0 });
+      table = replicate symbolLimit (record { kind = 0; count = 0; parameters = replicate parameterLimit (record { tag = 0; number = 0 }) });
+      positions = 0;
+      occurrences = replicate occurrenceLimit 0;
+      begins = 0;
+      ends = 0;
+      follows = replicate occurrenceLimit 0;
+      empty = false;
+    }
+unfolding emptyBook heldTable symbolOf pad
+empty-book s h = refusal-book s h .0
+
 -- lines that say something in form have few argument places
-few-places : (v : ℕ) (l : List Symbol) → all (soundSymbol v) l ≡ true → all (λ y. leb (length (y .places)) 4) l ≡ true
+few-parameters : (v : ℕ) (l : List Symbol) → all (soundSymbol v) l ≡ true → all (λ y. leb (length (y .parameters)) 4) l ≡ true
 unfolding soundSymbol
-few-places v l h = all-of _ l λ y m. simp and-eq-true-iff at (all-at (soundSymbol v) h m) .0 .1
+few-parameters v l h = all-of _ l λ y m. simp and-eq-true-iff at (all-at (soundSymbol v) h m) .0 .1
 
 module _ (s : Bytes) where
   -- the table of a text in form
@@ -103,7 +122,7 @@ module _ (s : Bytes) where
         fewVariables = rw e (h .fewVariables);
         fewSymbols = rw length-map (h .fewSymbols);
         paired = sym (length-map (t .symbols) (bytesAt s)) ∙ ap length b ∙ simp length-map;
-        fewPlaces = few-places (length (d .variables)) (t .table) (Accepted.form-proper s d r f .symbols);
+        fewParameters = few-parameters (length (d .variables)) (t .table) (Accepted.form-proper s d r f .symbols);
       } in
       (e, view-table t g)
 
@@ -178,6 +197,50 @@ whole s d r f = ap (λ o. readingFor o .book) (Accepted.fields s d r f)
 pub book-names : (s : Bytes) (d : Declarations) (r : Regex) → Form s d r → reading s .book .names ≡ pad namesLimit noName (map nameOf (spans d))
 unfolding bookFor heldTable
 book-names s d r f = ap (λ b. b .names) (whole s d r f)
+
+-- a declaring place has the size of the name
+variable-sizes : (p : ℕ) (ws : List Bytes) → map (λ x. x .size) (variableSpans p ws) ≡ map length ws
+variable-sizes p [] = refl
+variable-sizes p (w ∷ ws) = ap (length w ∷_) (variable-sizes (p + length w + 1) ws)
+
+symbol-sizes : (p : ℕ) (vs : List Bytes) (ls : List SymbolLine) → map (λ x. x .size) (symbolSpans p vs ls) ≡ map length (map (λ l. l .name) ls)
+symbol-sizes p vs [] = refl
+symbol-sizes p vs (l ∷ ls) = ap (length (l .name) ∷_) (symbol-sizes _ vs ls)
+
+span-sizes : (d : Declarations) → map (λ x. x .size) (spans d) ≡ map length (allNames d)
+span-sizes d =
+    map-append (λ x. x .size) (variableSpans 5 (d .variables)) _
+    ∙ ap₂ _++_ (variable-sizes 5 (d .variables)) (symbol-sizes _ (d .variables) (d .symbols))
+    ∙ sym (map-append length (d .variables) (symbolNames d))
+
+-- so a place ends in the text where all bytes of its name stand there, and a name has a first byte
+name-some : (w : Bytes) → isName w ≡ true → 1 ≤ length w
+name-some [] h = absurd (true≢false (sym h))
+name-some (b ∷ w) h = omega arith
+
+spans-inside : (s : Bytes) (xs : List Span) → map (λ x. x .size) xs ≡ map length (map (bytesAt s) xs) → all isName (map (bytesAt s) xs) ≡ true
+    → all (inside (length s)) xs ≡ true
+spans-inside s [] k h = refl
+spans-inside s (x ∷ xs) k h =
+    let (a, b) = and-true-split (isName (bytesAt s x)) _ h in
+    let n : x .size ≡ length (bytesAt s x) = ap (λ l. getD l 0 0) k in
+    let m = length-take (x .start + x .size - x .start) (drop (x .start) s) in
+    let o = length-drop (x .start) s in
+    ap₂ _&&_ (le-leb (x .start + x .size) (length s) (omega (arith, name-some (bytesAt s x) a))) (spans-inside s xs (ap (drop 1) k) b)
+
+-- the places of the declared names end in the text
+pub names-inside : (s : Bytes) (d : Declarations) (r : Regex) → Form s d r → let b = reading s .book in
+    all (λ x. inside (length s) (spanOf x)) (take (b .variables + b .symbols) (b .names)) ≡ true
+unfolding bookFor heldTable
+names-inside s d r f =
+    let t = declaredTable d in
+    let e = Accepted.names-placed s d r (f .shape) in
+    let m : length (t .symbols) ≡ length (t .table) =
+    sym (length-map (t .symbols) _) ∙ ap length (symbol-sizes _ (d .variables) (d .symbols)) ∙ simp length-map in
+    let n : length (t .variables) + length (t .table) ≡ length (map nameOf (spans d)) =
+    sym (length-map (spans d) nameOf ∙ length-append (t .variables) (t .symbols) ∙ ap (length (t .variables) +_) m) in
+    rw (whole s d r f, n, pad-take namesLimit noName (map nameOf (spans d)), all-map (λ x. inside (length s) (spanOf x)) nameOf (spans d))
+    (spans-inside s (spans d) (span-sizes d ∙ ap (map length) (sym e)) (ap (all isName) e ∙ f .shape .named))
 
 -- "A read book … never gets 9": the book's share of it
 pub sound : (s : Bytes) → numberOf (reading s .answer) ≡ 0 → Plain.soundBook (viewBook (reading s .book)) ≡ true

@@ -2,7 +2,12 @@
 // free. For the event call.
 use book::Book;
 use constraint::Constraint;
+use constraint::Constraints;
 use disjunct::Disjunct;
+use rows::NO_ROOM;
+use rows::ROWS;
+use sets::CAPACITY;
+use sets::Words;
 ghost use mathlib.Core.Path.{_≡_};
 ghost use mathlib.Core.Bool.{true, cond};
 ghost use mathlib.Core.List.{[], _∷_, map};
@@ -11,11 +16,14 @@ ghost use lib.ListN.{take, getD};
 ghost use Rattle.laws.specs.Bits.{bit};
 ghost use Rattle.laws.specs.Order.{ascending};
 ghost use Rattle.laws.specs.Sets.{Grown, within};
+ghost use Rattle.pattern.specs.Positions.{occurrenceLimit};
 ghost use Rattle.meaning.specs.Events.{Event, constraintOf};
 ghost use Rattle.meaning.specs.Book.{soundBook, followers};
+ghost use Rattle.meaning.specs.Room.{heldLimit};
 ghost use Rattle.meaning.specs.Rows.{compareValuations, rows};
-ghost use Rattle.work.specs.Wide.{wideBook};
-ghost use Rattle.work.specs.Bounded.{pick, withStart, rowLimit, rowsWith, freeIn, freeRows};
+ghost use Rattle.form.specs.Limits.{variableLimit};
+ghost use Rattle.bounded.specs.Wide.{wideBook};
+ghost use Rattle.bounded.specs.Bounded.{pick, withStart, rowLimit, rowsWith, freeIn, freeRows};
 ghost use Rattle.constraint.specs.Constraints.{viewConstraint, noConstraint, Ready};
 ghost use Rattle.disjunct.specs.Disjuncts.{viewDisjunct};
 ghost use Rattle.sets.specs.Sets.{disjunctsIn};
@@ -24,7 +32,7 @@ ghost use Rattle.advance.specs.Held.{heldIn, Counts};
 ghost use Rattle.rows.specs.Valuations.{valuationsIn, rowsGrown};
 
 // The row that d gives with c, put among the first m.
-fn add_row(out: &mut [u32; 8256], m: usize, d: Disjunct, c: Constraint) -> usize
+fn add_row(out: &mut rows::Words, m: usize, d: Disjunct, c: Constraint) -> usize
     requires { ⌜ (m ≤ rowLimit) × Ready c × (ascending compareValuations (take m (valuationsIn (now out))) ≡ true) ⌝ }
     ensures { λ r. ⌜ rowsGrown r (now (out .exit)) ≡ rowsWith (viewConstraint c) (viewDisjunct d ∷ [])
         (Grown.grown (take m (valuationsIn (now (out .entry))))) ⌝ }
@@ -39,16 +47,16 @@ fn add_row(out: &mut [u32; 8256], m: usize, d: Disjunct, c: Constraint) -> usize
 
 // The rows of one ending position q put among the first m: how many there are then, or 2,065.
 fn rows_at(
-    held: &[u32; 3584],
-    masks: &[u32; 128],
+    held: &Words,
+    masks: &[u32; CAPACITY],
     n: usize,
     q: usize,
     begins: bool,
     c: Constraint,
-    out: &mut [u32; 8256],
+    out: &mut rows::Words,
     m: usize,
 ) -> usize
-    requires { ⌜ (n ≤ 128) × (q ≤ 31) × (m ≤ rowLimit) × Ready c × (ascending compareValuations (take m (valuationsIn (now out))) ≡ true) ⌝ }
+    requires { ⌜ (n ≤ heldLimit) × (q ≤ occurrenceLimit) × (m ≤ rowLimit) × Ready c × (ascending compareValuations (take m (valuationsIn (now out))) ≡ true) ⌝ }
     ensures { λ r. ⌜ rowsGrown r (now (out .exit)) ≡ rowsWith (viewConstraint c)
         (withStart begins (pick (λ x. bit q x) (take n (now (masks .entry))) (take n (disjunctsIn (now (held .entry))))))
         (Grown.grown (take m (valuationsIn (now (out .entry))))) ⌝ }
@@ -56,8 +64,8 @@ fn rows_at(
     let mut k = m;
     if begins {
         k = add_row(out, k, Disjunct::free(), c);
-        if 2064 < k {
-            return 2065;
+        if ROWS < k {
+            return NO_ROOM;
         }
     }
     let mut i: usize = 0;
@@ -65,8 +73,8 @@ fn rows_at(
         if step::has(masks[i], q) {
             let d = sets::get(held, i);
             k = add_row(out, k, d, c);
-            if 2064 < k {
-                return 2065;
+            if ROWS < k {
+                return NO_ROOM;
             }
         }
         i += 1;
@@ -76,17 +84,17 @@ fn rows_at(
 
 // The same for any position q: none where it does not end a word. A false constraint gives none either.
 fn rows_of(
-    held: &[u32; 3584],
-    masks: &[u32; 128],
+    held: &Words,
+    masks: &[u32; CAPACITY],
     n: usize,
     q: usize,
     begins: u32,
     ends: u32,
     c: Constraint,
-    out: &mut [u32; 8256],
+    out: &mut rows::Words,
     m: usize,
 ) -> usize
-    requires { ⌜ (n ≤ 128) × (q ≤ 31) × (m ≤ rowLimit) × Ready c × (ascending compareValuations (take m (valuationsIn (now out))) ≡ true) ⌝ }
+    requires { ⌜ (n ≤ heldLimit) × (q ≤ occurrenceLimit) × (m ≤ rowLimit) × Ready c × (ascending compareValuations (take m (valuationsIn (now out))) ≡ true) ⌝ }
     ensures { λ r. ⌜ rowsGrown r (now (out .exit)) ≡ rowsWith (viewConstraint c)
         (cond (bit q ends) (withStart (bit q begins) (pick (λ x. bit q x) (take n (now (masks .entry))) (take n (disjunctsIn (now (held .entry)))))) [])
         (Grown.grown (take m (valuationsIn (now (out .entry))))) ⌝ }
@@ -101,14 +109,14 @@ fn rows_of(
 // The rows of an event, from the constraints of the book's symbols: how many, or 2,065.
 pub fn collect(
     book: Book,
-    cs: [Constraint; 16],
-    held: &[u32; 3584],
-    at: &[u32; 128],
-    masks: &[u32; 128],
+    cs: Constraints,
+    held: &Words,
+    at: &[u32; CAPACITY],
+    masks: &[u32; CAPACITY],
     n: usize,
-    out: &mut [u32; 8256],
+    out: &mut rows::Words,
 ) -> usize
-    requires { ⌜ (n ≤ 128) × Counts book × (soundBook (viewBook book) ≡ true)
+    requires { ⌜ (n ≤ heldLimit) × Counts book × (soundBook (viewBook book) ≡ true)
         × (take n (now masks) ≡ map (followers (viewBook book)) (take n (now at))) × ((i : ℕ) → i < book .symbols → Ready (getD cs i noConstraint)) ⌝ }
     ensures { λ r. ⌜ ((e : Event) → map viewConstraint (take (book .symbols) cs) ≡ map (λ s. constraintOf s e) (viewBook book .symbols)
         → rowsGrown r (now (out .exit)) ≡ within rowLimit (rows (wideBook (viewBook book)) (heldIn n (now (at .entry)) (now (held .entry))) e)) ⌝ }
@@ -120,8 +128,8 @@ pub fn collect(
         let y = book.occurrences[i] as usize;
         let c = cs[y];
         m = rows_of(held, masks, n, i + 1, book.begins, book.ends, c, out, m);
-        if 2064 < m {
-            return 2065;
+        if ROWS < m {
+            return NO_ROOM;
         }
         i += 1;
     }
@@ -130,7 +138,7 @@ pub fn collect(
 
 // Whether d met with c leaves one of the first v variables free.
 fn free_met(d: Disjunct, c: Constraint, v: usize) -> bool
-    requires { ⌜ (v ≤ 4) × Ready c ⌝ }
+    requires { ⌜ (v ≤ variableLimit) × Ready c ⌝ }
     ensures { λ r. ⌜ r ≡ freeIn v (viewConstraint c) (viewDisjunct d ∷ []) ⌝ }
 {
     let x = d.meet(c);
@@ -143,15 +151,15 @@ fn free_met(d: Disjunct, c: Constraint, v: usize) -> bool
 
 // The same for the sources of one ending position q.
 fn free_at(
-    held: &[u32; 3584],
-    masks: &[u32; 128],
+    held: &Words,
+    masks: &[u32; CAPACITY],
     n: usize,
     q: usize,
     begins: bool,
     c: Constraint,
     v: usize,
 ) -> bool
-    requires { ⌜ (n ≤ 128) × (q ≤ 31) × (v ≤ 4) × Ready c ⌝ }
+    requires { ⌜ (n ≤ heldLimit) × (q ≤ occurrenceLimit) × (v ≤ variableLimit) × Ready c ⌝ }
     ensures { λ r. ⌜ r ≡ freeIn v (viewConstraint c)
         (withStart begins (pick (λ x. bit q x) (take n (now (masks .entry))) (take n (disjunctsIn (now (held .entry)))))) ⌝ }
 {
@@ -175,8 +183,8 @@ fn free_at(
 
 // The same for any position q.
 fn free_of(
-    held: &[u32; 3584],
-    masks: &[u32; 128],
+    held: &Words,
+    masks: &[u32; CAPACITY],
     n: usize,
     q: usize,
     begins: u32,
@@ -184,7 +192,7 @@ fn free_of(
     c: Constraint,
     v: usize,
 ) -> bool
-    requires { ⌜ (n ≤ 128) × (q ≤ 31) × (v ≤ 4) × Ready c ⌝ }
+    requires { ⌜ (n ≤ heldLimit) × (q ≤ occurrenceLimit) × (v ≤ variableLimit) × Ready c ⌝ }
     ensures { λ r. ⌜ r ≡ freeIn v (viewConstraint c)
         (cond (bit q ends) (withStart (bit q begins) (pick (λ x. bit q x) (take n (now (masks .entry))) (take n (disjunctsIn (now (held .entry)))))) []) ⌝ }
 {
@@ -198,13 +206,13 @@ fn free_of(
 // "a row that would leave a variable free", disjunct by disjunct.
 pub fn leaves_free(
     book: Book,
-    cs: [Constraint; 16],
-    held: &[u32; 3584],
-    at: &[u32; 128],
-    masks: &[u32; 128],
+    cs: Constraints,
+    held: &Words,
+    at: &[u32; CAPACITY],
+    masks: &[u32; CAPACITY],
     n: usize,
 ) -> bool
-    requires { ⌜ (n ≤ 128) × Counts book × (soundBook (viewBook book) ≡ true)
+    requires { ⌜ (n ≤ heldLimit) × Counts book × (soundBook (viewBook book) ≡ true)
         × (take n (now masks) ≡ map (followers (viewBook book)) (take n (now at))) × ((i : ℕ) → i < book .symbols → Ready (getD cs i noConstraint)) ⌝ }
     ensures { λ r. ⌜ ((e : Event) → map viewConstraint (take (book .symbols) cs) ≡ map (λ s. constraintOf s e) (viewBook book .symbols)
         → r ≡ freeRows (book .variables) (wideBook (viewBook book)) (heldIn n (now (at .entry)) (now (held .entry))) e) ⌝ }

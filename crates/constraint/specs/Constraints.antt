@@ -7,6 +7,7 @@ use lib.Dec.{ltb}
 use lib.ListN.{take}
 use Rattle.laws.specs.Lists.{all}
 use Rattle.meaning.specs.Events as Events
+use Rattle.form.specs.Limits.{variableLimit, parameterLimit}
 use Rattle.constraint.specs.declared.Demand.{Demand}
 use Rattle.constraint.specs.declared.Constraint.{Constraint}
 
@@ -29,5 +30,5 @@ noConstraint = record { ok = false; count = 0; demands = [] }
 
 -- a constraint that the code has built: four places, no more counted, and every demand on one of four variables
 pub record Ready (c : Constraint) : Type 0 where
-  pub few : c .count ≤ 4
-  pub within : all (λ d. ltb (d .variable) 4) (demandsIn c) ≡ true
+  pub few : c .count ≤ parameterLimit
+  pub within : all (λ d. ltb (d .variable) variableLimit) (demandsIn c) ≡ true

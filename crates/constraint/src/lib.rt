@@ -1,5 +1,7 @@
 // The constraint of a symbol on an event: what it demands of the variables, or false. For the matcher's sets.
 use record::Event;
+use table::PARAMETERS;
+use table::SYMBOLS;
 use table::Symbol;
 ghost use mathlib.Core.Path.{_≡_};
 ghost use mathlib.Core.Bool.{true, _&&_};
@@ -9,9 +11,10 @@ ghost use lib.Dec.{leb};
 ghost use lib.ListN.{take, drop, getD};
 ghost use Rattle.laws.specs.Lists.{all};
 ghost use Rattle.meaning.specs.Events as Events;
-ghost use Rattle.meaning.specs.Book.{soundPlace};
+ghost use Rattle.meaning.specs.Book.{soundParameter};
+ghost use Rattle.form.specs.Limits.{variableLimit, symbolLimit, parameterLimit};
 ghost use Rattle.table.specs.Tables.{viewSymbol};
-ghost use Rattle.record.specs.Records.{viewEvent};
+ghost use Rattle.record.specs.Records.{argumentLimit, viewEvent};
 ghost use Rattle.constraint.specs.Constraints.{noDemand, noConstraint, demandsIn, viewConstraint, Ready};
 
 // "variable equals argument"
@@ -24,12 +27,15 @@ pub struct Demand {
 pub struct Constraint {
     pub ok: bool,
     pub count: usize,
-    pub demands: [Demand; 4],
+    pub demands: [Demand; PARAMETERS],
 }
+
+// The constraints of all symbols that a book may have.
+pub type Constraints = [Constraint; SYMBOLS];
 
 // "A symbol matches an event when the kinds are equal and the event's argument count equals the symbol's."
 pub fn matches(y: Symbol, e: Event) -> bool
-    requires { ⌜ (y .count ≤ 4) × (e .count ≤ 4) ⌝ }
+    requires { ⌜ (y .count ≤ parameterLimit) × (e .count ≤ argumentLimit) ⌝ }
     ensures { λ r. ⌜ r ≡ Events.matches (viewSymbol y) (viewEvent e) ⌝ }
 {
     y.kind == e.kind && y.count == e.count
@@ -45,14 +51,14 @@ pub fn never() -> Constraint
     Constraint {
         ok: false,
         count: 0,
-        demands: [d; 4],
+        demands: [d; PARAMETERS],
     }
 }
 
 // "variable equals argument" for each bound place among the first ones of both.
 fn demands(y: Symbol, e: Event) -> Constraint
-    requires { ⌜ (y .count ≤ 4) × (e .count ≡ y .count) × (all (soundPlace 4) (viewSymbol y .places) ≡ true) ⌝ }
-    ensures { λ r. ⌜ (demandsIn r ≡ Events.demandsOf (viewSymbol y .places) (viewEvent e .args)) × (r .ok ≡ true) × Ready r ⌝ }
+    requires { ⌜ (y .count ≤ parameterLimit) × (e .count ≡ y .count) × (all (soundParameter variableLimit) (viewSymbol y .parameters) ≡ true) ⌝ }
+    ensures { λ r. ⌜ (demandsIn r ≡ Events.demandsOf (viewSymbol y .parameters) (viewEvent e .args)) × (r .ok ≡ true) × Ready r ⌝ }
 {
     let mut r = never();
     r.ok = true;
@@ -60,7 +66,7 @@ fn demands(y: Symbol, e: Event) -> Constraint
     let mut m: usize = 0;
     let mut i: usize = 0;
     while i < n {
-        let p = y.places[i];
+        let p = y.parameters[i];
         let x = e.args[i];
         if p.tag == 1 {
             let d = Demand {
@@ -112,7 +118,7 @@ fn consistent(c: Constraint) -> bool
 }
 
 pub fn constraint_of(y: Symbol, e: Event) -> Constraint
-    requires { ⌜ (y .count ≤ 4) × (e .count ≤ 4) × (all (soundPlace 4) (viewSymbol y .places) ≡ true) ⌝ }
+    requires { ⌜ (y .count ≤ parameterLimit) × (e .count ≤ argumentLimit) × (all (soundParameter variableLimit) (viewSymbol y .parameters) ≡ true) ⌝ }
     ensures { λ r. ⌜ (viewConstraint r ≡ Events.constraintOf (viewSymbol y) (viewEvent e)) × Ready r ⌝ }
 {
     if matches(y, e) {
@@ -125,13 +131,13 @@ pub fn constraint_of(y: Symbol, e: Event) -> Constraint
 }
 
 // The constraints of the first n symbols of a table.
-pub fn constraints(table: [Symbol; 16], n: usize, e: Event) -> [Constraint; 16]
-    requires { ⌜ (n ≤ 16) × (e .count ≤ 4) × (all (λ y. leb (y .count) 4 && all (soundPlace 4) (viewSymbol y .places)) (take n table) ≡ true) ⌝ }
+pub fn constraints(table: [Symbol; SYMBOLS], n: usize, e: Event) -> Constraints
+    requires { ⌜ (n ≤ symbolLimit) × (e .count ≤ argumentLimit) × (all (λ y. leb (y .count) parameterLimit && all (soundParameter variableLimit) (viewSymbol y .parameters)) (take n table) ≡ true) ⌝ }
     ensures { λ r. ⌜ (map viewConstraint (take n r) ≡ map (λ y. Events.constraintOf (viewSymbol y) (viewEvent e)) (take n table))
         × ((i : ℕ) → i < n → Ready (getD r i noConstraint)) ⌝ }
 {
     let c = never();
-    let mut r = [c; 16];
+    let mut r = [c; SYMBOLS];
     let mut i: usize = 0;
     while i < n {
         let y = table[i];

@@ -2,6 +2,7 @@
 use mathlib.Core.List.{[], map}
 use Rattle.laws.specs.Parts.{pad}
 use Rattle.meaning.specs.Labels as Labels
+use Rattle.form.specs.Limits.{variableLimit}
 use Rattle.slot.specs.Slots.{viewSlot, slotOf}
 use Rattle.disjunct.specs.declared.Disjunct.{Disjunct}
 
@@ -11,4 +12,4 @@ viewDisjunct d = map viewSlot (d .vars)
 
 -- plain to code
 unfoldable pub disjunctOf : Labels.Disjunct → Disjunct
-disjunctOf D = record { vars = pad 4 (slotOf (Labels.Entry.free [])) (map slotOf D) }
+disjunctOf D = record { vars = pad variableLimit (slotOf (Labels.Entry.free [])) (map slotOf D) }

@@ -1,5 +1,6 @@
 // The disjunct: what it says of each of four variables; meeting, exclusion and the order. For the matcher's sets.
 use constraint::Constraint;
+use slot::SAME;
 use slot::Slot;
 ghost use mathlib.Core.Path.{_≡_};
 ghost use mathlib.Core.Bool.{true, false};
@@ -10,14 +11,16 @@ ghost use lib.ListN.{length, take};
 ghost use Rattle.laws.specs.Lists.{any};
 ghost use Rattle.laws.specs.Order.{lex};
 ghost use Rattle.meaning.specs.Labels as Labels;
+ghost use Rattle.meaning.specs.Room.{exclusionLimit};
 ghost use Rattle.meaning.specs.Rows.{valuationOf};
+ghost use Rattle.form.specs.Limits.{variableLimit};
 ghost use Rattle.slot.specs.Slots.{rank};
 ghost use Rattle.constraint.specs.Constraints.{viewConstraint, Ready};
 ghost use Rattle.disjunct.specs.Disjuncts.{viewDisjunct, disjunctOf};
 
 // A slot for each of four variables; those beyond the book's variables are free.
 pub struct Disjunct {
-    pub vars: [Slot; 4],
+    pub vars: [Slot; Disjunct::VARIABLES],
 }
 
 // What a meeting or an exclusion gives: a disjunct, or (ok false) none; then the disjunct as it was.
@@ -29,14 +32,16 @@ pub struct Met {
 impl Disjunct {
     pub const VARIABLES: usize = 4;
 
-    pub const EXCLUSIONS: usize = 6;
+    pub const EXCLUSIONS: usize = slot::EXCLUSIONS;
 
     // "The free disjunct has nothing bound and nothing excluded"
     pub fn free() -> Disjunct
-        ensures { λ r. ⌜ r ≡ disjunctOf (Labels.freeDisjunct 4) ⌝ }
+        ensures { λ r. ⌜ r ≡ disjunctOf (Labels.freeDisjunct variableLimit) ⌝ }
     {
         let s = Slot::free();
-        Disjunct { vars: [s; 4] }
+        Disjunct {
+            vars: [s; Disjunct::VARIABLES],
+        }
     }
 
     // "Meeting a disjunct with a constraint yields a new disjunct or false"
@@ -77,7 +82,7 @@ impl Disjunct {
 
     // Whether variable v is free.
     pub fn is_free(self, v: usize) -> bool
-        requires { ⌜ v < 4 ⌝ }
+        requires { ⌜ v < variableLimit ⌝ }
         ensures { λ r. ⌜ r ≡ Labels.isFree (Labels.entryOf (viewDisjunct self) v) ⌝ }
     {
         let s = self.vars[v];
@@ -87,8 +92,8 @@ impl Disjunct {
 
     // x excluded at variable v; not the seventh one.
     pub fn exclude(self, v: usize, x: u32) -> Met
-        requires { ⌜ v < 4 ⌝ }
-        ensures { λ r. ⌜ (r .ok ≡ leb (length (Labels.exclusions (Labels.excluding (Labels.entryOf (viewDisjunct self) v) x))) 6)
+        requires { ⌜ v < variableLimit ⌝ }
+        ensures { λ r. ⌜ (r .ok ≡ leb (length (Labels.exclusions (Labels.excluding (Labels.entryOf (viewDisjunct self) v) x))) exclusionLimit)
             × (r .ok ≡ true → viewDisjunct (r .disjunct) ≡ Labels.exclude (viewDisjunct self) (record { variable = v; value = x }))
             × (r .ok ≡ false → r .disjunct ≡ self) ⌝ }
     {
@@ -118,12 +123,12 @@ impl Disjunct {
             let s = self.vars[i];
             let t = other.vars[i];
             let o = s.compare_values(t);
-            if o != 1 {
+            if o != SAME {
                 return o;
             }
             i += 1;
         }
-        1
+        SAME
     }
 
     // By exclusion lists.
@@ -135,12 +140,12 @@ impl Disjunct {
             let s = self.vars[i];
             let t = other.vars[i];
             let o = s.compare_exclusions(t);
-            if o != 1 {
+            if o != SAME {
                 return o;
             }
             i += 1;
         }
-        1
+        SAME
     }
 
     // "by values (a free variable before any value), then by exclusion lists, a list before any that it begins"
@@ -148,7 +153,7 @@ impl Disjunct {
         ensures { λ r. ⌜ r ≡ rank (Labels.compareDisjuncts (viewDisjunct self) (viewDisjunct other)) ⌝ }
     {
         let o = self.compare_values(other);
-        if o == 1 {
+        if o == SAME {
             return self.compare_exclusions(other);
         }
         o
@@ -156,7 +161,7 @@ impl Disjunct {
 
     // The first n variables as they are, the others free, and all that is not counted zero.
     pub fn tidied(self, n: usize) -> Disjunct
-        requires { ⌜ n ≤ 4 ⌝ }
+        requires { ⌜ n ≤ variableLimit ⌝ }
         ensures { λ r. ⌜ r ≡ disjunctOf (take n (viewDisjunct self)) ⌝ }
     {
         let mut d = Disjunct::free();
@@ -170,10 +175,10 @@ impl Disjunct {
     }
 
     // The values of the variables, 0 for a free one.
-    pub fn values(self) -> [u32; 4]
+    pub fn values(self) -> [u32; Disjunct::VARIABLES]
         ensures { λ r. ⌜ r ≡ valuationOf (viewDisjunct self) ⌝ }
     {
-        let mut r = [0u32; 4];
+        let mut r = [0u32; Disjunct::VARIABLES];
         let mut i: usize = 0;
         while i < Disjunct::VARIABLES {
             let s = self.vars[i];
@@ -187,7 +192,7 @@ impl Disjunct {
 
     // Whether one of the first n variables is free.
     pub fn leaves_free(self, n: usize) -> bool
-        requires { ⌜ n ≤ 4 ⌝ }
+        requires { ⌜ n ≤ variableLimit ⌝ }
         ensures { λ r. ⌜ r ≡ any Labels.isFree (take n (viewDisjunct self)) ⌝ }
     {
         let mut i: usize = 0;

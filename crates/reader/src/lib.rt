@@ -1,13 +1,15 @@
 // The reader of books: a lent text gives the book, or a number and a place; and the declared names as parts of that text.
 // For the buyer of the Bench level. No public function has a `requires`.
-use book::Answer;
 use book::Reading;
+use book::ReadingAnswer;
 use grammar::Parsed;
 use table::Name;
 use table::Table;
 ghost use mathlib.Core.Path.{_≡_};
+ghost use mathlib.Core.Bool.{true};
 ghost use Prim.Native.Nat.{ℕ, _+_, _≤_};
 ghost use lib.ListN.{length};
+ghost use Rattle.form.specs.Text.{isBytes};
 ghost use Rattle.form.specs.Limits.{variableLimit};
 ghost use Rattle.form.specs.Parse as Parse;
 ghost use Rattle.form.specs.Reading.{variablesOf, lastLine, allBits, matchFrom};
@@ -79,9 +81,9 @@ fn match_from(s: &[u8], t: Table, p: usize) -> Parsed
     grammar::failed(8, first)
 }
 
-// The reading of any bytes.
+// The reading of any bytes; that what is lent is bytes, as the theorems about readings ask, a caller has from here.
 pub fn read(s: &[u8]) -> Reading
-    ensures { λ r. ⌜ r ≡ reading (now (s .entry)) ⌝ }
+    ensures { λ r. ⌜ (r ≡ reading (now (s .entry))) × (isBytes (now (s .entry)) ≡ true) ⌝ }
 {
     if book::TEXT_LIMIT < s.len() {
         return book::refused(1, book::TEXT_LIMIT);
@@ -100,7 +102,7 @@ pub fn read(s: &[u8]) -> Reading
     let ends = x.ends;
     let volume = book::book_of(t, x);
     Reading {
-        answer: Answer::Accepted,
+        answer: ReadingAnswer::Accepted,
         book: volume,
         begin_count: u32::count_ones(begins),
         end_count: u32::count_ones(ends),

@@ -12,19 +12,27 @@ use Rattle.meaning.specs.Meaning.{noEvent}
 use Rattle.record.specs.declared.Event.{Event}
 use Rattle.record.specs.declared.Decoded.{Decoded}
 
+-- "Event record, 20 bytes"
+abbrev pub recordSize : ℕ
+recordSize = 20
+
+-- "argument count (0 to 4)", "four … arguments"
+abbrev pub argumentLimit : ℕ
+argumentLimit = 4
+
 -- four bytes from place k on, little-endian
 unfoldable pub wordAt : List ℕ → ℕ → ℕ
 wordAt s k = getD s k 0 + getD s (k + 1) 0 * 256 + getD s (k + 2) 0 * 65536 + getD s (k + 3) 0 * 16777216
 
--- the four argument words
+-- the four argument words, from byte 4 on
 unfoldable pub argumentsIn : List ℕ → List ℕ
-argumentsIn s = map (λ i. wordAt s (4 + 4 * i)) (numbers 0 4)
+argumentsIn s = map (λ i. wordAt s (4 + 4 * i)) (numbers 0 argumentLimit)
 
 -- a record in form; a byte is at most 255, so a kind from 1 on is in range
 unfoldable pub isRecord : List ℕ → Bool
 isRecord s =
-    eqb (length s) 20
-    && leb 1 (getD s 0 0) && leb (getD s 1 0) 4 && eqb (getD s 2 0) 0 && eqb (getD s 3 0) 0
+    eqb (length s) recordSize
+    && leb 1 (getD s 0 0) && leb (getD s 1 0) argumentLimit && eqb (getD s 2 0) 0 && eqb (getD s 3 0) 0
     && all (eqb 0) (drop (getD s 1 0) (argumentsIn s))
 
 -- the event that it holds
@@ -33,7 +41,7 @@ eventIn s = record { kind = getD s 0 0; args = take (getD s 1 0) (argumentsIn s)
 
 -- an event as the code holds it, and back
 unfoldable pub eventOf : Events.Event → Event
-eventOf e = record { kind = e .kind; count = length (e .args); args = pad 4 0 (e .args) }
+eventOf e = record { kind = e .kind; count = length (e .args); args = pad argumentLimit 0 (e .args) }
 
 unfoldable pub viewEvent : Event → Events.Event
 viewEvent e = record { kind = e .kind; args = take (e .count) (e .args) }

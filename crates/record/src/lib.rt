@@ -4,13 +4,18 @@ ghost use Prim.Native.Nat.{_+_, _≤_};
 ghost use lib.Dec.{eqb};
 ghost use lib.ListN.{length, drop};
 ghost use Rattle.laws.specs.Lists.{all};
-ghost use Rattle.record.specs.Records.{wordAt, noneDecoded, decoded};
+ghost use Rattle.record.specs.Records.{recordSize, wordAt, noneDecoded, decoded};
+
+// "Event record, 20 bytes", "four unsigned 32-bit little-endian arguments"
+const RECORD: usize = 20;
+
+pub const ARGUMENTS: usize = 4;
 
 // An event: its kind and the first `count` of its arguments; those beyond the count are 0.
 pub struct Event {
     pub kind: u32,
     pub count: usize,
-    pub args: [u32; 4],
+    pub args: [u32; ARGUMENTS],
 }
 
 // What a record holds: an event, or (ok false) nothing that can be used.
@@ -38,11 +43,11 @@ fn word(s: &[u8], at: usize) -> u32
 }
 
 // Whether all arguments from number `from` on are zero.
-fn zero_from(args: [u32; 4], from: usize) -> bool
+fn zero_from(args: [u32; ARGUMENTS], from: usize) -> bool
     ensures { λ r. ⌜ r ≡ all (eqb 0) (drop from args) ⌝ }
 {
     let mut i = from;
-    while i < 4 {
+    while i < ARGUMENTS {
         if args[i] != 0 {
             return false;
         }
@@ -59,14 +64,14 @@ fn no_event() -> Decoded
         event: Event {
             kind: 0,
             count: 0,
-            args: [0u32; 4],
+            args: [0u32; ARGUMENTS],
         },
     }
 }
 
 // The event in a record that is 20 bytes with the first four as they must be.
 fn decode_tail(s: &[u8]) -> Decoded
-    requires { ⌜ length (now s) ≡ 20 ⌝ }
+    requires { ⌜ length (now s) ≡ recordSize ⌝ }
     ensures { λ r. ⌜ r ≡ decoded (now (s .entry)) ⌝ }
 {
     let kind = wide(s[0]);
@@ -76,7 +81,7 @@ fn decode_tail(s: &[u8]) -> Decoded
     let c = word(s, 12);
     let d = word(s, 16);
     let args = [a, b, c, d];
-    if kind == 0 || 4 < count || s[2] != 0 || s[3] != 0 {
+    if kind == 0 || ARGUMENTS < count || s[2] != 0 || s[3] != 0 {
         return no_event();
     }
     if zero_from(args, count) {
@@ -95,7 +100,7 @@ fn decode_tail(s: &[u8]) -> Decoded
 pub fn decode(s: &[u8]) -> Decoded
     ensures { λ r. ⌜ r ≡ decoded (now (s .entry)) ⌝ }
 {
-    if s.len() == 20 {
+    if s.len() == RECORD {
         return decode_tail(s);
     }
     no_event()

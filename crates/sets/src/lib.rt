@@ -1,33 +1,62 @@
-// A set of up to 128 disjuncts in lent words: 28 words to a disjunct, seven to a variable (7 for bound and the value; or the count of
-// exclusions and six words for them). Only `get` and `put` know the words. For the sets that one event makes.
+// A set of disjuncts in lent words: to each of a disjunct's variables a code and its value, or a code and its exclusions. Only `get` and
+// `put` know the words. For the sets that one event makes.
 use disjunct::Disjunct;
+use slot::AFTER;
+use slot::SAME;
 use slot::Slot;
 ghost use mathlib.Core.Path.{_≡_};
 ghost use mathlib.Core.Bool.{true, false};
 ghost use mathlib.Core.List.{[], _∷_, _++_};
-ghost use Prim.Native.Nat.{suc, _+_, _≤_, _<_};
+ghost use Prim.Native.Nat.{suc, _+_, _*_, _≤_, _<_};
 ghost use lib.ListN.{length, take, drop, getD, set};
 ghost use Rattle.laws.specs.Order.{ascending};
 ghost use Rattle.laws.specs.Sets.{insert, insertAll, within};
 ghost use Rattle.meaning.specs.Labels.{compareDisjuncts};
+ghost use Rattle.meaning.specs.Room.{heldLimit};
+ghost use Rattle.form.specs.Limits.{variableLimit};
 ghost use Rattle.slot.specs.Slots.{viewSlot};
 ghost use Rattle.disjunct.specs.Disjuncts.{viewDisjunct};
-ghost use Rattle.sets.specs.Sets.{entryAt, entriesIn, disjunctsIn, grownIn};
+ghost use Rattle.sets.specs.Sets.{slotWords, disjunctWords, entryAt, entriesIn, disjunctsIn, grownIn};
+
+// How many disjuncts a set may have: "exceeds 128".
+pub const CAPACITY: usize = 128;
+
+// The answer of a set that would have more.
+pub const NO_ROOM: usize = CAPACITY + 1;
+
+// The words of a variable: a code, and its value or room for its exclusions.
+const SLOT_WORDS: usize = 1 + Disjunct::EXCLUSIONS;
+
+// Where those of a disjunct's second, third and fourth variable begin.
+const SECOND: usize = SLOT_WORDS;
+
+const THIRD: usize = 2 * SLOT_WORDS;
+
+const FOURTH: usize = 3 * SLOT_WORDS;
+
+const DISJUNCT_WORDS: usize = Disjunct::VARIABLES * SLOT_WORDS;
+
+pub const WORDS: usize = CAPACITY * DISJUNCT_WORDS;
+
+pub type Words = [u32; WORDS];
+
+// The code of a bound variable, above any number of exclusions, which is the code of a free one.
+const BOUND: u32 = 1 + Disjunct::EXCLUSIONS as u32;
 
 // Where an element stands, or where it would have to be put.
-struct Place {
+struct Insertion {
     found: bool,
     at: usize,
 }
 
-// What the seven words from `at` on say of a variable. A slice, since that is where the array's length is known.
+// What the words from `at` on say of a variable. A slice, since that is where the array's length is known.
 fn read_slot(words: &[u32], at: usize) -> Slot
-    requires { ⌜ at + 7 ≤ length (now words) ⌝ }
+    requires { ⌜ at + slotWords ≤ length (now words) ⌝ }
     ensures { λ r. ⌜ viewSlot r ≡ entryAt (now (words .entry)) at ⌝ }
 {
     let code = words[at];
     let x = words[at + 1];
-    if code == 7 {
+    if code == BOUND {
         return Slot::holding(x);
     }
     Slot {
@@ -46,26 +75,26 @@ fn read_slot(words: &[u32], at: usize) -> Slot
 }
 
 // The i-th disjunct.
-pub fn get(words: &[u32; 3584], i: usize) -> Disjunct
-    requires { ⌜ i < 128 ⌝ }
+pub fn get(words: &Words, i: usize) -> Disjunct
+    requires { ⌜ i < heldLimit ⌝ }
     ensures { λ r. ⌜ viewDisjunct r ≡ getD (disjunctsIn (now (words .entry))) i [] ⌝ }
 {
-    let at = i * 28;
+    let at = i * DISJUNCT_WORDS;
     let a = read_slot(words, at);
-    let b = read_slot(words, at + 7);
-    let c = read_slot(words, at + 14);
-    let d = read_slot(words, at + 21);
+    let b = read_slot(words, at + SECOND);
+    let c = read_slot(words, at + THIRD);
+    let d = read_slot(words, at + FOURTH);
     Disjunct { vars: [a, b, c, d] }
 }
 
 // The words of a variable, two for a value and else seven, from the place of its number j among all variables of all disjuncts.
 fn put_slot(words: &mut [u32], j: usize, s: Slot)
-    requires { ⌜ (j < 512) × (length (now words) ≡ 3584) ⌝ }
+    requires { ⌜ (j < heldLimit * variableLimit) × (length (now words) ≡ heldLimit * disjunctWords) ⌝ }
     ensures { λ _. ⌜ entriesIn (now (words .exit)) ≡ set (entriesIn (now (words .entry))) j (viewSlot s) ⌝ }
 {
-    let at = j * 7;
+    let at = j * SLOT_WORDS;
     if s.bound {
-        words[at] = 7;
+        words[at] = BOUND;
         words[at + 1] = s.value;
         return;
     }
@@ -81,11 +110,11 @@ fn put_slot(words: &mut [u32], j: usize, s: Slot)
 }
 
 // The i-th disjunct written over.
-pub fn put(words: &mut [u32; 3584], i: usize, d: Disjunct)
-    requires { ⌜ i < 128 ⌝ }
+pub fn put(words: &mut Words, i: usize, d: Disjunct)
+    requires { ⌜ i < heldLimit ⌝ }
     ensures { λ _. ⌜ disjunctsIn (now (words .exit)) ≡ set (disjunctsIn (now (words .entry))) i (viewDisjunct d) ⌝ }
 {
-    let j = i * 4;
+    let j = i * Disjunct::VARIABLES;
     let a = d.vars[0];
     let b = d.vars[1];
     let c = d.vars[2];
@@ -97,8 +126,8 @@ pub fn put(words: &mut [u32; 3584], i: usize, d: Disjunct)
 }
 
 // Looks from the end of the first n, where most new disjuncts go.
-fn place_of(words: &[u32; 3584], n: usize, d: Disjunct) -> Place
-    requires { ⌜ (n ≤ 128) × (ascending compareDisjuncts (take n (disjunctsIn (now words))) ≡ true) ⌝ }
+fn insertion_point(words: &Words, n: usize, d: Disjunct) -> Insertion
+    requires { ⌜ (n ≤ heldLimit) × (ascending compareDisjuncts (take n (disjunctsIn (now words))) ≡ true) ⌝ }
     ensures { λ r. ⌜ (r .found ≡ true → insert compareDisjuncts (viewDisjunct d) (take n (disjunctsIn (now (words .entry))))
         ≡ take n (disjunctsIn (now (words .entry))))
         × (r .found ≡ false → (r .at ≤ n) × (insert compareDisjuncts (viewDisjunct d) (take n (disjunctsIn (now (words .entry))))
@@ -108,29 +137,29 @@ fn place_of(words: &[u32; 3584], n: usize, d: Disjunct) -> Place
     while 0 < i {
         let e = get(words, i - 1);
         let o = d.order(e);
-        if o == 2 {
-            return Place {
+        if o == AFTER {
+            return Insertion {
                 found: false,
                 at: i,
             };
         }
-        if o == 1 {
-            return Place {
+        if o == SAME {
+            return Insertion {
                 found: true,
                 at: i - 1,
             };
         }
         i -= 1;
     }
-    Place {
+    Insertion {
         found: false,
         at: 0,
     }
 }
 
 // Room for one more at k: the elements from k to n - 1 moved up by one.
-fn shift(words: &mut [u32; 3584], n: usize, k: usize)
-    requires { ⌜ (k ≤ n) × (n < 128) ⌝ }
+fn shift(words: &mut Words, n: usize, k: usize)
+    requires { ⌜ (k ≤ n) × (n < heldLimit) ⌝ }
     ensures { λ _. ⌜ (take k (disjunctsIn (now (words .exit))) ≡ take k (disjunctsIn (now (words .entry))))
         × (drop (suc k) (take (suc n) (disjunctsIn (now (words .exit)))) ≡ drop k (take n (disjunctsIn (now (words .entry))))) ⌝ }
 {
@@ -142,17 +171,17 @@ fn shift(words: &mut [u32; 3584], n: usize, k: usize)
     }
 }
 
-// d among the first n, in its place: how many there are then, or 129 where there is no room for one more.
-pub fn insert(words: &mut [u32; 3584], n: usize, d: Disjunct) -> usize
-    requires { ⌜ (n ≤ 128) × (ascending compareDisjuncts (take n (disjunctsIn (now words))) ≡ true) ⌝ }
-    ensures { λ r. ⌜ grownIn r (now (words .exit)) ≡ within 128 (insert compareDisjuncts (viewDisjunct d) (take n (disjunctsIn (now (words .entry))))) ⌝ }
+// d among the first n, in its place: how many there are then, or NO_ROOM for one more.
+pub fn insert(words: &mut Words, n: usize, d: Disjunct) -> usize
+    requires { ⌜ (n ≤ heldLimit) × (ascending compareDisjuncts (take n (disjunctsIn (now words))) ≡ true) ⌝ }
+    ensures { λ r. ⌜ grownIn r (now (words .exit)) ≡ within heldLimit (insert compareDisjuncts (viewDisjunct d) (take n (disjunctsIn (now (words .entry))))) ⌝ }
 {
-    let p = place_of(words, n, d);
+    let p = insertion_point(words, n, d);
     if p.found {
         return n;
     }
-    if n == 128 {
-        return 129;
+    if n == CAPACITY {
+        return NO_ROOM;
     }
     let at = p.at;
     shift(words, n, at);
@@ -161,8 +190,8 @@ pub fn insert(words: &mut [u32; 3584], n: usize, d: Disjunct) -> usize
 }
 
 // The first n disjuncts of one set written behind the first `at` of another.
-pub fn append(from: &[u32; 3584], n: usize, words: &mut [u32; 3584], at: usize)
-    requires { ⌜ at + n ≤ 128 ⌝ }
+pub fn append(from: &Words, n: usize, words: &mut Words, at: usize)
+    requires { ⌜ at + n ≤ heldLimit ⌝ }
     ensures { λ _. ⌜ take (at + n) (disjunctsIn (now (words .exit)))
         ≡ take at (disjunctsIn (now (words .entry))) ++ take n (disjunctsIn (now (from .entry))) ⌝ }
 {
@@ -175,9 +204,9 @@ pub fn append(from: &[u32; 3584], n: usize, words: &mut [u32; 3584], at: usize)
 }
 
 // The first k disjuncts of one set put among the first m of another.
-pub fn join(words: &mut [u32; 3584], m: usize, from: &[u32; 3584], k: usize) -> usize
-    requires { ⌜ (m ≤ 128) × (k ≤ 128) × (ascending compareDisjuncts (take m (disjunctsIn (now words))) ≡ true) ⌝ }
-    ensures { λ r. ⌜ grownIn r (now (words .exit)) ≡ within 128
+pub fn join(words: &mut Words, m: usize, from: &Words, k: usize) -> usize
+    requires { ⌜ (m ≤ heldLimit) × (k ≤ heldLimit) × (ascending compareDisjuncts (take m (disjunctsIn (now words))) ≡ true) ⌝ }
+    ensures { λ r. ⌜ grownIn r (now (words .exit)) ≡ within heldLimit
         (insertAll compareDisjuncts (take k (disjunctsIn (now (from .entry)))) (take m (disjunctsIn (now (words .entry))))) ⌝ }
 {
     let mut n = m;
@@ -185,8 +214,8 @@ pub fn join(words: &mut [u32; 3584], m: usize, from: &[u32; 3584], k: usize) -> 
     while i < k {
         let d = get(from, i);
         n = insert(words, n, d);
-        if 128 < n {
-            return 129;
+        if CAPACITY < n {
+            return NO_ROOM;
         }
         i += 1;
     }

@@ -1,6 +1,10 @@
 // The skip set of a position: its old label taken through all symbols in declaration order. For the new labels.
 use constraint::Constraint;
+use constraint::Constraints;
 use disjunct::Disjunct;
+use sets::CAPACITY;
+use sets::NO_ROOM;
+use sets::Words;
 ghost use mathlib.Core.Path.{_≡_};
 ghost use mathlib.Core.Bool.{true};
 ghost use mathlib.Core.List.{map};
@@ -11,23 +15,24 @@ ghost use Rattle.laws.specs.Lists.{keep};
 ghost use Rattle.laws.specs.Order.{ascending};
 ghost use Rattle.laws.specs.Sets.{Grown};
 ghost use Rattle.meaning.specs.Labels.{entryOf, isFree, exclude, compareDisjuncts, skipOne};
-ghost use Rattle.meaning.specs.Room.{fewExclusions};
-ghost use Rattle.work.specs.Bounded.{pick, growFew, skipped, skippedThrough};
+ghost use Rattle.meaning.specs.Room.{heldLimit, fewExclusions};
+ghost use Rattle.form.specs.Limits.{symbolLimit};
+ghost use Rattle.bounded.specs.Bounded.{pick, growFew, skipped, skippedThrough};
 ghost use Rattle.constraint.specs.Constraints.{viewConstraint, demandsIn, noConstraint, Ready};
 ghost use Rattle.disjunct.specs.Disjuncts.{viewDisjunct};
 ghost use Rattle.sets.specs.Sets.{disjunctsIn, grownIn};
 
 // The label of position p.
-pub fn label(held: &[u32; 3584], at: &[u32; 128], n: usize, p: u32, out: &mut [u32; 3584]) -> usize
-    requires { ⌜ n ≤ 128 ⌝ }
+pub fn label(held: &Words, at: &[u32; CAPACITY], n: usize, p: u32, out: &mut Words) -> usize
+    requires { ⌜ n ≤ heldLimit ⌝ }
     ensures { λ r. ⌜ (r ≤ n) × (take r (disjunctsIn (now (out .exit))) ≡ pick (eqb p) (take n (now (at .entry))) (take n (disjunctsIn (now (held .entry))))) ⌝ }
 {
     // as a slice, since that tells the proof its length
-    let places: &[u32] = at;
+    let parameters: &[u32] = at;
     let mut m: usize = 0;
     let mut i: usize = 0;
     while i < n {
-        if places[i] == p {
+        if parameters[i] == p {
             let d = sets::get(held, i);
             sets::put(out, m, d);
             m += 1;
@@ -38,8 +43,8 @@ pub fn label(held: &[u32; 3584], at: &[u32; 128], n: usize, p: u32, out: &mut [u
 }
 
 // What d gives for c's demands from the i-th on, put among the first m: d with the value excluded, for each whose variable is free in d.
-fn skip_from(d: Disjunct, c: Constraint, i: usize, out: &mut [u32; 3584], m: usize) -> usize
-    requires { ⌜ (m ≤ 128) × Ready c × (fewExclusions (viewDisjunct d) ≡ true) × (ascending compareDisjuncts (take m (disjunctsIn (now out))) ≡ true) ⌝ }
+fn skip_from(d: Disjunct, c: Constraint, i: usize, out: &mut Words, m: usize) -> usize
+    requires { ⌜ (m ≤ heldLimit) × Ready c × (fewExclusions (viewDisjunct d) ≡ true) × (ascending compareDisjuncts (take m (disjunctsIn (now out))) ≡ true) ⌝ }
     ensures { λ r. ⌜ grownIn r (now (out .exit)) ≡ growFew (map (exclude (viewDisjunct d))
         (keep (λ x. isFree (entryOf (viewDisjunct d) (x .variable))) (drop i (demandsIn c)))) (Grown.grown (take m (disjunctsIn (now (out .entry))))) ⌝ }
 {
@@ -53,19 +58,19 @@ fn skip_from(d: Disjunct, c: Constraint, i: usize, out: &mut [u32; 3584], m: usi
         if e.ok {
             let f = e.disjunct;
             let k = sets::insert(out, m, f);
-            if 128 < k {
-                return 129;
+            if CAPACITY < k {
+                return NO_ROOM;
             }
             return skip_from(d, c, i + 1, out, k);
         }
-        return 129;
+        return NO_ROOM;
     }
     skip_from(d, c, i + 1, out, m)
 }
 
 // What d gives past c: d itself where they do not meet; else one disjunct for each variable of c free in d.
-fn skip_one(d: Disjunct, c: Constraint, out: &mut [u32; 3584], m: usize) -> usize
-    requires { ⌜ (m ≤ 128) × Ready c × (fewExclusions (viewDisjunct d) ≡ true) × (ascending compareDisjuncts (take m (disjunctsIn (now out))) ≡ true) ⌝ }
+fn skip_one(d: Disjunct, c: Constraint, out: &mut Words, m: usize) -> usize
+    requires { ⌜ (m ≤ heldLimit) × Ready c × (fewExclusions (viewDisjunct d) ≡ true) × (ascending compareDisjuncts (take m (disjunctsIn (now out))) ≡ true) ⌝ }
     ensures { λ r. ⌜ grownIn r (now (out .exit)) ≡ growFew (skipOne (viewConstraint c) (viewDisjunct d))
         (Grown.grown (take m (disjunctsIn (now (out .entry))))) ⌝ }
 {
@@ -77,8 +82,8 @@ fn skip_one(d: Disjunct, c: Constraint, out: &mut [u32; 3584], m: usize) -> usiz
 }
 
 // A set past one symbol.
-pub fn skip_by(from: &[u32; 3584], n: usize, c: Constraint, out: &mut [u32; 3584]) -> usize
-    requires { ⌜ (n ≤ 128) × Ready c ⌝ }
+pub fn skip_by(from: &Words, n: usize, c: Constraint, out: &mut Words) -> usize
+    requires { ⌜ (n ≤ heldLimit) × Ready c ⌝ }
     ensures { λ r. ⌜ grownIn r (now (out .exit)) ≡ skipped (viewConstraint c) (take n (disjunctsIn (now (from .entry)))) ⌝ }
 {
     let mut m: usize = 0;
@@ -86,8 +91,8 @@ pub fn skip_by(from: &[u32; 3584], n: usize, c: Constraint, out: &mut [u32; 3584
     while i < n {
         let d = sets::get(from, i);
         m = skip_one(d, c, out, m);
-        if 128 < m {
-            return 129;
+        if CAPACITY < m {
+            return NO_ROOM;
         }
         i += 1;
     }
@@ -96,13 +101,13 @@ pub fn skip_by(from: &[u32; 3584], n: usize, c: Constraint, out: &mut [u32; 3584
 
 // The first n disjuncts of `words` past the first `count` constraints; `other` is for the work between. A false constraint costs nothing.
 pub fn skip_through(
-    words: &mut [u32; 3584],
-    other: &mut [u32; 3584],
+    words: &mut Words,
+    other: &mut Words,
     n: usize,
-    cs: [Constraint; 16],
+    cs: Constraints,
     count: usize,
 ) -> usize
-    requires { ⌜ (n ≤ 128) × (count ≤ 16) × (ascending compareDisjuncts (take n (disjunctsIn (now words))) ≡ true)
+    requires { ⌜ (n ≤ heldLimit) × (count ≤ symbolLimit) × (ascending compareDisjuncts (take n (disjunctsIn (now words))) ≡ true)
         × ((i : ℕ) → i < count → Ready (getD cs i noConstraint)) ⌝ }
     ensures { λ r. ⌜ grownIn r (now (words .exit)) ≡ skippedThrough (map viewConstraint (take count cs)) (take n (disjunctsIn (now (words .entry)))) ⌝ }
 {
@@ -112,8 +117,8 @@ pub fn skip_through(
         let c = cs[symbol];
         if c.ok {
             m = skip_by(words, m, c, other);
-            if 128 < m {
-                return 129;
+            if CAPACITY < m {
+                return NO_ROOM;
             }
             sets::append(other, m, words, 0);
         }

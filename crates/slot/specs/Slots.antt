@@ -6,6 +6,7 @@ use lib.Dec.{ltb}
 use lib.ListN.{length, take, replicate}
 use Rattle.laws.specs.Parts.{pad}
 use Rattle.meaning.specs.Labels.{Entry, bound, free}
+use Rattle.meaning.specs.Room.{exclusionLimit}
 use Rattle.slot.specs.declared.Slot.{Slot}
 
 -- code to plain: what is counted
@@ -14,8 +15,8 @@ viewSlot s = cond (s .bound) (bound (s .value)) (free (take (s .count) (s .exclu
 
 -- plain to code: what is not counted is zero
 unfoldable pub slotOf : Entry → Slot
-slotOf (bound a) = record { bound = true; value = a; count = 0; excluded = replicate 6 0 }
-slotOf (free xs) = record { bound = false; value = 0; count = length xs; excluded = pad 6 0 xs }
+slotOf (bound a) = record { bound = true; value = a; count = 0; excluded = replicate exclusionLimit 0 }
+slotOf (free xs) = record { bound = false; value = 0; count = length xs; excluded = pad exclusionLimit 0 xs }
 
 -- before, same, after as the code's numbers
 abbrev pub rank : Ordering → ℕ

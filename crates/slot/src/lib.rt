@@ -2,20 +2,24 @@
 ghost use mathlib.Core.Path.{_≡_};
 ghost use mathlib.Core.Bool.{true, false};
 ghost use mathlib.Core.List.{[], _∷_, _++_};
-ghost use Prim.Native.Nat.{suc, compare, _≤_};
+ghost use Prim.Native.Nat.{suc, compare, _≤_, _<_};
 ghost use lib.Dec.{eqb, leb};
 ghost use lib.ListN.{length, take, drop};
 ghost use Rattle.laws.specs.Lists.{any};
 ghost use Rattle.laws.specs.Order.{lex};
 ghost use Rattle.meaning.specs.Labels as Labels;
+ghost use Rattle.meaning.specs.Room.{exclusionLimit};
 ghost use Rattle.slot.specs.Slots.{viewSlot, slotOf, rank, smaller};
+
+// "at most 6 excluded values"
+pub const EXCLUSIONS: usize = 6;
 
 // The first `count` exclusions of a free variable, ascending; a bound one has its value and no exclusions.
 pub struct Slot {
     pub bound: bool,
     pub value: u32,
     pub count: usize,
-    pub excluded: [u32; 6],
+    pub excluded: [u32; EXCLUSIONS],
 }
 
 // A slot with one more exclusion, or (ok false) the slot as it was, since it would be the seventh.
@@ -39,7 +43,7 @@ impl Slot {
             bound: false,
             value: 0,
             count: 0,
-            excluded: [0u32; 6],
+            excluded: [0u32; EXCLUSIONS],
         }
     }
 
@@ -50,26 +54,26 @@ impl Slot {
             bound: true,
             value: x,
             count: 0,
-            excluded: [0u32; 6],
+            excluded: [0u32; EXCLUSIONS],
         }
     }
 
     // How many values are excluded.
     pub fn size(self) -> usize
-        ensures { λ r. ⌜ (r ≡ length (Labels.exclusions (viewSlot self))) × (r ≤ 6) ⌝ }
+        ensures { λ r. ⌜ (r ≡ length (Labels.exclusions (viewSlot self))) × (r ≤ exclusionLimit) ⌝ }
     {
         if self.bound {
             return 0;
         }
-        if 6 < self.count {
-            return 6;
+        if EXCLUSIONS < self.count {
+            return EXCLUSIONS;
         }
         self.count
     }
 
     // How many of the excluded values stand before x: the smaller ones at the beginning.
-    fn place(self, x: u32) -> usize
-        ensures { λ r. ⌜ (r ≡ smaller x (Labels.exclusions (viewSlot self))) × (r ≤ 6) ⌝ }
+    fn insertion_point(self, x: u32) -> usize
+        ensures { λ r. ⌜ (r ≡ smaller x (Labels.exclusions (viewSlot self))) × (r ≤ exclusionLimit) ⌝ }
     {
         let n = self.size();
         let xs = self.excluded;
@@ -111,7 +115,7 @@ impl Slot {
 
     // x among the exclusions of a free variable, in its place.
     pub fn excluding(self, x: u32) -> Excluded
-        ensures { λ r. ⌜ (r .ok ≡ leb (length (Labels.exclusions (Labels.excluding (viewSlot self) x))) 6)
+        ensures { λ r. ⌜ (r .ok ≡ leb (length (Labels.exclusions (Labels.excluding (viewSlot self) x))) exclusionLimit)
             × (r .ok ≡ true → viewSlot (r .slot) ≡ Labels.excluding (viewSlot self) x)
             × (r .ok ≡ false → r .slot ≡ self) ⌝ }
     {
@@ -122,7 +126,7 @@ impl Slot {
             };
         }
         let n = self.size();
-        let k = self.place(x);
+        let k = self.insertion_point(x);
         let xs = self.excluded;
         if k < n {
             if xs[k] == x {
@@ -132,7 +136,7 @@ impl Slot {
                 };
             }
         }
-        if n == 6 {
+        if n == EXCLUSIONS {
             return Excluded {
                 ok: false,
                 slot: self,
@@ -160,7 +164,7 @@ impl Slot {
         let n = self.size();
         let mut xs = self.excluded;
         let mut i = n;
-        while i < 6 {
+        while i < EXCLUSIONS {
             xs[i] = 0;
             i += 1;
         }
@@ -224,8 +228,8 @@ impl Slot {
 }
 
 // The first n numbers with x put at k, the later ones moved up by one.
-fn opened(xs: [u32; 6], k: usize, n: usize, x: u32) -> [u32; 6]
-    requires { ⌜ (k ≤ n) × (n ≤ 5) ⌝ }
+fn opened(xs: [u32; EXCLUSIONS], k: usize, n: usize, x: u32) -> [u32; EXCLUSIONS]
+    requires { ⌜ (k ≤ n) × (n < exclusionLimit) ⌝ }
     ensures { λ r. ⌜ take (suc n) r ≡ take k xs ++ x ∷ drop k (take n xs) ⌝ }
 {
     let mut ys = xs;

@@ -14,6 +14,7 @@ use lib.ListN.{length, length-map}
 use Rattle.laws.specs.Lists.{all}
 use Rattle.meaning.specs.Events.{word32}
 use Rattle.table.proofs.Symbol as symbols
+use Rattle.table.proofs.Name as names
 use Rattle.slot.specs.declared.Slot.{Slot}
 use Rattle.slot.proofs.Slot as slots
 use Rattle.disjunct.specs.declared.Disjunct.{Disjunct}
@@ -56,6 +57,7 @@ state-sized s h =
 
 -- the arrays of a book have their lengths
 pub record BookSized (b : Book) : Type 0 where
+  pub names : length (b .names) ≡ 20
   pub table : length (b .table) ≡ 16
   pub occurrences : length (b .occurrences) ≡ 31
   pub follows : length (b .follows) ≡ 31
@@ -65,6 +67,7 @@ book-sized b h =
     let t = h .1 .1 .1 .1 .1 in
     let f = t .1 .1 .1 .1 .1 in
     record {
+      names = sym (length-map (b .names) (names.the-field .into)) ∙ h .1 .1 .1 .1 .0 .1 .0 .1;
       table = sym (length-map (b .table) (symbols.the-field .into)) ∙ t .0 .1 .0 .1;
       occurrences = sym (length-map (b .occurrences) (u32-field .into)) ∙ t .1 .1 .0 .1 .0 .1;
       follows = sym (length-map (b .follows) (u32-field .into)) ∙ f .0 .1 .0 .1;

@@ -1,9 +1,16 @@
 // Whether a book and a state, filled in any way, are sound: answer 9 otherwise. For the event call.
 use book::Book;
+use book::TEXT_LIMIT;
 use disjunct::Disjunct;
+use piece::POSITIONS;
+use slot::BEFORE;
 use slot::Slot;
 use state::State;
-use table::Place;
+use table::NAMES;
+use table::Name;
+use table::PARAMETERS;
+use table::Parameter;
+use table::SYMBOLS;
 use table::Symbol;
 ghost use mathlib.Core.Path.{_≡_};
 ghost use mathlib.Core.Bool.{_&&_};
@@ -12,12 +19,15 @@ ghost use lib.Dec.{leb, ltb};
 ghost use lib.ListN.{take};
 ghost use Rattle.laws.specs.Lists.{all};
 ghost use Rattle.laws.specs.Order.{isLess, ascending};
-ghost use Rattle.meaning.specs.Book.{soundPlace, soundMask};
+ghost use Rattle.pattern.specs.Positions.{occurrenceLimit};
+ghost use Rattle.meaning.specs.Book.{soundParameter, soundMask};
 ghost use Rattle.meaning.specs.Labels.{heldAt, compareHeld};
-ghost use Rattle.table.specs.Tables.{viewPlace};
+ghost use Rattle.meaning.specs.Room.{exclusionLimit, heldLimit};
+ghost use Rattle.form.specs.Limits.{variableLimit, symbolLimit, parameterLimit};
+ghost use Rattle.table.specs.Tables.{namesLimit, viewParameter};
 ghost use Rattle.disjunct.specs.Disjuncts.{viewDisjunct};
 ghost use Rattle.state.specs.States.{heldFirst};
-ghost use Rattle.sound.specs.Soundness.{bookSound, stateSound};
+ghost use Rattle.sound.specs.Soundness.{namePlaced, bookSound, stateSound};
 ghost use Rattle.sound.specs.Tests.{slotSound, disjunctSound, symbolSound, patternSound, poolSound};
 
 fn both(a: bool, b: bool) -> bool
@@ -49,8 +59,8 @@ fn least(a: usize, b: usize) -> usize
 }
 
 // The first n numbers ascend.
-fn ascends(xs: [u32; 6], n: usize) -> bool
-    requires { ⌜ n ≤ 6 ⌝ }
+fn ascends(xs: [u32; Disjunct::EXCLUSIONS], n: usize) -> bool
+    requires { ⌜ n ≤ exclusionLimit ⌝ }
     ensures { λ r. ⌜ r ≡ ascending compare (take n xs) ⌝ }
 {
     let mut i: usize = 1;
@@ -79,7 +89,7 @@ fn sound_slot(s: Slot) -> bool
 
 // Each of the first n variables.
 fn sound_disjunct(d: Disjunct, n: usize) -> bool
-    requires { ⌜ n ≤ 4 ⌝ }
+    requires { ⌜ n ≤ variableLimit ⌝ }
     ensures { λ r. ⌜ r ≡ disjunctSound n d ⌝ }
 {
     let mut i: usize = 0;
@@ -96,7 +106,7 @@ fn sound_disjunct(d: Disjunct, n: usize) -> bool
 
 // One held disjunct before another: by position, then by the order of disjuncts.
 fn before(p: u32, d: Disjunct, q: u32, e: Disjunct, n: usize) -> bool
-    requires { ⌜ n ≤ 4 ⌝ }
+    requires { ⌜ n ≤ variableLimit ⌝ }
     ensures { λ r. ⌜ r ≡ isLess (compareHeld (heldAt p (take n (viewDisjunct d))) (heldAt q (take n (viewDisjunct e)))) ⌝ }
 {
     if p < q {
@@ -107,12 +117,12 @@ fn before(p: u32, d: Disjunct, q: u32, e: Disjunct, n: usize) -> bool
     }
     let x = d.tidied(n);
     let y = e.tidied(n);
-    x.order(y) == 0
+    x.order(y) == BEFORE
 }
 
 // Each of the held disjuncts by itself.
 fn sound_pool(s: State, variables: usize, positions: usize) -> bool
-    requires { ⌜ (variables ≤ 4) × (s .count ≤ 128) ⌝ }
+    requires { ⌜ (variables ≤ variableLimit) × (s .count ≤ heldLimit) ⌝ }
     ensures { λ r. ⌜ r ≡ poolSound variables positions s ⌝ }
 {
     let n = s.count;
@@ -135,7 +145,7 @@ fn sound_pool(s: State, variables: usize, positions: usize) -> bool
 
 // The held disjuncts in their order.
 fn sound_order(s: State, variables: usize) -> bool
-    requires { ⌜ (variables ≤ 4) × (s .count ≤ 128) ⌝ }
+    requires { ⌜ (variables ≤ variableLimit) × (s .count ≤ heldLimit) ⌝ }
     ensures { λ r. ⌜ r ≡ ascending compareHeld (heldFirst variables s) ⌝ }
 {
     let n = s.count;
@@ -153,17 +163,17 @@ fn sound_order(s: State, variables: usize) -> bool
 }
 
 pub fn sound_state(b: Book, s: State) -> bool
-    requires { ⌜ b .variables ≤ 4 ⌝ }
+    requires { ⌜ b .variables ≤ variableLimit ⌝ }
     ensures { λ r. ⌜ r ≡ stateSound b s ⌝ }
 {
-    if 1000000 < s.number {
+    if state::EVENTS < s.number {
         return false;
     }
-    if 128 < s.count {
+    if state::CAPACITY < s.count {
         return false;
     }
     // No more positions than the book has room for.
-    let positions = least(b.positions, 31);
+    let positions = least(b.positions, POSITIONS);
     if sound_pool(s, b.variables, positions) {
         return sound_order(s, b.variables);
     }
@@ -171,8 +181,8 @@ pub fn sound_state(b: Book, s: State) -> bool
 }
 
 // An argument place: ignored, or one of the variables.
-fn sound_place(p: Place, variables: usize) -> bool
-    ensures { λ r. ⌜ r ≡ (leb (p .tag) 1 && soundPlace variables (viewPlace p)) ⌝ }
+fn sound_parameter(p: Parameter, variables: usize) -> bool
+    ensures { λ r. ⌜ r ≡ (leb (p .tag) 1 && soundParameter variables (viewParameter p)) ⌝ }
 {
     let v = p.number as usize;
     if p.tag == 1 {
@@ -181,14 +191,14 @@ fn sound_place(p: Place, variables: usize) -> bool
     p.tag == 0
 }
 
-fn sound_places(places: [Place; 4], n: usize, variables: usize) -> bool
-    requires { ⌜ n ≤ 4 ⌝ }
-    ensures { λ r. ⌜ r ≡ all (λ p. leb (p .tag) 1 && soundPlace variables (viewPlace p)) (take n places) ⌝ }
+fn sound_parameters(parameters: [Parameter; PARAMETERS], n: usize, variables: usize) -> bool
+    requires { ⌜ n ≤ parameterLimit ⌝ }
+    ensures { λ r. ⌜ r ≡ all (λ p. leb (p .tag) 1 && soundParameter variables (viewParameter p)) (take n parameters) ⌝ }
 {
     let mut i: usize = 0;
     while i < n {
-        let p = places[i];
-        if sound_place(p, variables) {
+        let p = parameters[i];
+        if sound_parameter(p, variables) {
             i += 1;
         } else {
             return false;
@@ -203,15 +213,18 @@ fn sound_symbol(y: Symbol, variables: usize) -> bool
 {
     let n = y.count;
     let kind = y.kind as usize;
-    let places = y.places;
-    if 4 < n {
+    let parameters = y.parameters;
+    if PARAMETERS < n {
         return false;
     }
-    both(within(kind, 1, 255), sound_places(places, n, variables))
+    both(
+        within(kind, 1, 255),
+        sound_parameters(parameters, n, variables),
+    )
 }
 
-fn sound_symbols(table: [Symbol; 16], n: usize, variables: usize) -> bool
-    requires { ⌜ n ≤ 16 ⌝ }
+fn sound_symbols(table: [Symbol; SYMBOLS], n: usize, variables: usize) -> bool
+    requires { ⌜ n ≤ symbolLimit ⌝ }
     ensures { λ r. ⌜ r ≡ all (symbolSound variables) (take n table) ⌝ }
 {
     let mut i: usize = 0;
@@ -226,17 +239,46 @@ fn sound_symbols(table: [Symbol; 16], n: usize, variables: usize) -> bool
     true
 }
 
+// A name that ends within a text. No sum: both numbers may be of any size.
+fn sound_name(x: Name) -> bool
+    ensures { λ r. ⌜ r ≡ namePlaced x ⌝ }
+{
+    if TEXT_LIMIT < x.start {
+        return false;
+    }
+    if TEXT_LIMIT - x.start < x.size {
+        return false;
+    }
+    true
+}
+
+fn sound_names(names: [Name; NAMES], n: usize) -> bool
+    requires { ⌜ n ≤ namesLimit ⌝ }
+    ensures { λ r. ⌜ r ≡ all namePlaced (take n names) ⌝ }
+{
+    let mut i: usize = 0;
+    while i < n {
+        let x = names[i];
+        if sound_name(x) {
+            i += 1;
+        } else {
+            return false;
+        }
+    }
+    true
+}
+
 // A set of positions 1 to n.
 fn sound_mask(m: u32, n: usize) -> bool
-    requires { ⌜ n ≤ 31 ⌝ }
+    requires { ⌜ n ≤ occurrenceLimit ⌝ }
     ensures { λ r. ⌜ r ≡ soundMask n m ⌝ }
 {
     let x = m as u64;
     x < (1u64 << (n + 1)) && m % 2 == 0
 }
 
-fn sound_masks(follows: [u32; 31], n: usize) -> bool
-    requires { ⌜ n ≤ 31 ⌝ }
+fn sound_masks(follows: [u32; POSITIONS], n: usize) -> bool
+    requires { ⌜ n ≤ occurrenceLimit ⌝ }
     ensures { λ r. ⌜ r ≡ all (soundMask n) (take n follows) ⌝ }
 {
     let mut i: usize = 0;
@@ -251,8 +293,8 @@ fn sound_masks(follows: [u32; 31], n: usize) -> bool
 }
 
 // The symbol of each of the first n positions is declared.
-fn sound_occurrences(occurrences: [u32; 31], n: usize, symbols: usize) -> bool
-    requires { ⌜ n ≤ 31 ⌝ }
+fn sound_occurrences(occurrences: [u32; POSITIONS], n: usize, symbols: usize) -> bool
+    requires { ⌜ n ≤ occurrenceLimit ⌝ }
     ensures { λ r. ⌜ r ≡ all (λ a. ltb a symbols) (take n occurrences) ⌝ }
 {
     let mut i: usize = 0;
@@ -276,7 +318,7 @@ fn sound_pattern(b: Book) -> bool
     if b.empty {
         return false;
     }
-    if within(n, 1, 31) {
+    if within(n, 1, POSITIONS) {
         let edges = both(sound_mask(b.begins, n), sound_mask(b.ends, n));
         let follow = both(
             sound_occurrences(occurrences, n, b.symbols),
@@ -292,13 +334,16 @@ pub fn sound_book(b: Book) -> bool
 {
     let n = b.symbols;
     let table = b.table;
-    if 4 < b.variables {
+    let names = b.names;
+    if Disjunct::VARIABLES < b.variables {
         return false;
     }
-    if within(n, 1, 16) {
-        if sound_symbols(table, n, b.variables) {
-            return sound_pattern(b);
-        }
+    if within(n, 1, SYMBOLS) {
+        let declared = both(
+            sound_symbols(table, n, b.variables),
+            sound_names(names, b.variables + n),
+        );
+        return both(declared, sound_pattern(b));
     }
     false
 }

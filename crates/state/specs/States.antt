@@ -1,10 +1,11 @@
--- How the code holds a state: a pool of 128 disjuncts with their positions, the places not taken free; and how it is read back.
+-- How the code holds a state: a pool of disjuncts with their positions, the places not taken free; and how it is read back.
 use mathlib.Core.List.{List, [], map}
 use Prim.Native.Nat.{ℕ}
 use lib.ListN.{length, take}
 use Rattle.laws.specs.Parts.{pad}
 use Rattle.meaning.specs.Labels as Labels
-use Rattle.work.specs.Bounded.{heldOf}
+use Rattle.meaning.specs.Room.{heldLimit}
+use Rattle.bounded.specs.Bounded.{heldOf}
 use Rattle.disjunct.specs.Disjuncts.{viewDisjunct, disjunctOf}
 use Rattle.state.specs.declared.State.{State}
 
@@ -15,8 +16,8 @@ stateOf s =
     record {
       number = s .number;
       count = length (s .held);
-      positions = pad 128 0 (map (λ h. h .position) (s .held));
-      pool = pad 128 (disjunctOf []) (map (λ h. disjunctOf (h .disjunct)) (s .held));
+      positions = pad heldLimit 0 (map (λ h. h .position) (s .held));
+      pool = pad heldLimit (disjunctOf []) (map (λ h. disjunctOf (h .disjunct)) (s .held));
     }
 
 -- code to plain: the places that are taken, and of each disjunct the book's variables

@@ -1,22 +1,31 @@
-// The state of a watch by value: the event number and the pool of 128 disjuncts; taken into lent words and made of them.
+// The state of a watch by value: the event number and the pool of disjuncts; taken into lent words and made of them.
 use disjunct::Disjunct;
+use sets::Words;
 ghost use mathlib.Core.Path.{_≡_};
 ghost use mathlib.Core.List.{[], map};
 ghost use Prim.Native.Nat.{_≤_, _<_};
 ghost use lib.ListN.{length, getD, set};
-ghost use Rattle.work.specs.Wide.{wideHeld};
+ghost use Rattle.meaning.specs.Room.{heldLimit};
+ghost use Rattle.form.specs.Limits.{variableLimit};
+ghost use Rattle.bounded.specs.Wide.{wideHeld};
 ghost use Rattle.advance.specs.Held.{heldIn};
 ghost use Rattle.state.specs.States.{stateOf, heldFirst};
+
+// "all 128 disjunct places": a place for each disjunct of a set.
+pub const CAPACITY: usize = sets::CAPACITY;
+
+// "1,000,000 events"
+pub const EVENTS: u32 = 1000000;
 
 // The first `count` places are taken: the position and the disjunct in its label. The others are free.
 pub struct State {
     pub number: u32,
     pub count: usize,
-    pub positions: [u32; 128],
-    pub pool: [Disjunct; 128],
+    pub positions: [u32; CAPACITY],
+    pub pool: [Disjunct; CAPACITY],
 }
 
-// All 128 places free.
+// All places free.
 pub fn vacant(number: u32) -> State
     ensures { λ r. ⌜ r ≡ stateOf (record { number = number; held = [] }) ⌝ }
 {
@@ -24,8 +33,8 @@ pub fn vacant(number: u32) -> State
     State {
         number: number,
         count: 0,
-        positions: [0u32; 128],
-        pool: [d; 128],
+        positions: [0u32; CAPACITY],
+        pool: [d; CAPACITY],
     }
 }
 
@@ -46,8 +55,8 @@ fn put_position(at: &mut [u32], i: usize, p: u32)
 }
 
 // What the state holds of the first `variables` variables, in lent words; the further variables free.
-pub fn load(s: State, variables: usize, at: &mut [u32; 128], words: &mut [u32; 3584])
-    requires { ⌜ (s .count ≤ 128) × (variables ≤ 4) ⌝ }
+pub fn load(s: State, variables: usize, at: &mut [u32; CAPACITY], words: &mut Words)
+    requires { ⌜ (s .count ≤ heldLimit) × (variables ≤ variableLimit) ⌝ }
     ensures { λ _. ⌜ heldIn (s .count) (now (at .exit)) (now (words .exit)) ≡ map wideHeld (heldFirst variables s) ⌝ }
 {
     let n = s.count;
@@ -61,8 +70,8 @@ pub fn load(s: State, variables: usize, at: &mut [u32; 128], words: &mut [u32; 3
 }
 
 // The state that holds what the lent words say, all that is not counted zero.
-pub fn store(number: u32, at: &[u32; 128], words: &[u32; 3584], n: usize) -> State
-    requires { ⌜ n ≤ 128 ⌝ }
+pub fn store(number: u32, at: &[u32; CAPACITY], words: &Words, n: usize) -> State
+    requires { ⌜ n ≤ heldLimit ⌝ }
     ensures { λ r. ⌜ r ≡ stateOf (record { number = number; held = heldIn n (now (at .entry)) (now (words .entry)) }) ⌝ }
 {
     let mut s = vacant(number);
@@ -70,7 +79,7 @@ pub fn store(number: u32, at: &[u32; 128], words: &[u32; 3584], n: usize) -> Sta
     while i < n {
         let d = sets::get(words, i);
         s.positions[i] = position_at(at, i);
-        s.pool[i] = d.tidied(4);
+        s.pool[i] = d.tidied(Disjunct::VARIABLES);
         i += 1;
     }
     s.count = n;

@@ -1,6 +1,10 @@
 // The step set of a position: its symbol's constraint met with the disjuncts of its sources. For the new labels and the rows.
 use constraint::Constraint;
 use disjunct::Disjunct;
+use piece::POSITIONS;
+use sets::CAPACITY;
+use sets::NO_ROOM;
+use sets::Words;
 ghost use mathlib.Core.Path.{_≡_};
 ghost use mathlib.Core.Bool.{true, _&&_};
 ghost use mathlib.Core.List.{[], _∷_, map};
@@ -11,23 +15,25 @@ ghost use Rattle.laws.specs.Bits.{bit};
 ghost use Rattle.laws.specs.Lists.{all};
 ghost use Rattle.laws.specs.Order.{ascending};
 ghost use Rattle.laws.specs.Sets.{insertAll, within};
+ghost use Rattle.pattern.specs.Positions.{occurrenceLimit};
 ghost use Rattle.meaning.specs.Labels.{compareDisjuncts};
-ghost use Rattle.work.specs.Bounded.{pick, withStart, metList, metSet};
+ghost use Rattle.meaning.specs.Room.{heldLimit};
+ghost use Rattle.bounded.specs.Bounded.{pick, withStart, metList, metSet};
 ghost use Rattle.constraint.specs.Constraints.{viewConstraint, Ready};
 ghost use Rattle.disjunct.specs.Disjuncts.{viewDisjunct};
 ghost use Rattle.sets.specs.Sets.{disjunctsIn, grownIn};
 
 // Whether bit p of m is set.
 pub fn has(m: u32, p: usize) -> bool
-    requires { ⌜ p ≤ 31 ⌝ }
+    requires { ⌜ p ≤ occurrenceLimit ⌝ }
     ensures { λ r. ⌜ r ≡ bit p m ⌝ }
 {
     (m >> p) & 1 == 1
 }
 
 // The masks of the first n positions.
-fn fill_masks(follows: [u32; 31], at: &[u32], n: usize, masks: &mut [u32])
-    requires { ⌜ (n ≤ length (now at)) × (n ≤ length (now masks)) × (all (λ p. leb 1 p && leb p 31) (take n (now at)) ≡ true) ⌝ }
+fn fill_masks(follows: [u32; POSITIONS], at: &[u32], n: usize, masks: &mut [u32])
+    requires { ⌜ (n ≤ length (now at)) × (n ≤ length (now masks)) × (all (λ p. leb 1 p && leb p occurrenceLimit) (take n (now at)) ≡ true) ⌝ }
     ensures { λ _. ⌜ take n (now (masks .exit)) ≡ map (λ p. getD follows (p - 1) 0) (take n (now (at .entry))) ⌝ }
 {
     let mut i: usize = 0;
@@ -39,17 +45,22 @@ fn fill_masks(follows: [u32; 31], at: &[u32], n: usize, masks: &mut [u32])
 }
 
 // The positions that follow each held position.
-pub fn follow_masks(follows: [u32; 31], at: &[u32; 128], n: usize, masks: &mut [u32; 128])
-    requires { ⌜ (n ≤ 128) × (all (λ p. leb 1 p && leb p 31) (take n (now at)) ≡ true) ⌝ }
+pub fn follow_masks(
+    follows: [u32; POSITIONS],
+    at: &[u32; CAPACITY],
+    n: usize,
+    masks: &mut [u32; CAPACITY],
+)
+    requires { ⌜ (n ≤ heldLimit) × (all (λ p. leb 1 p && leb p occurrenceLimit) (take n (now at)) ≡ true) ⌝ }
     ensures { λ _. ⌜ take n (now (masks .exit)) ≡ map (λ p. getD follows (p - 1) 0) (take n (now (at .entry))) ⌝ }
 {
     fill_masks(follows, at, n, masks);
 }
 
 // d met with c, if the meeting succeeds, put among the first m.
-fn add_met(out: &mut [u32; 3584], m: usize, d: Disjunct, c: Constraint) -> usize
-    requires { ⌜ (m ≤ 128) × Ready c × (ascending compareDisjuncts (take m (disjunctsIn (now out))) ≡ true) ⌝ }
-    ensures { λ r. ⌜ grownIn r (now (out .exit)) ≡ within 128 (insertAll compareDisjuncts
+fn add_met(out: &mut Words, m: usize, d: Disjunct, c: Constraint) -> usize
+    requires { ⌜ (m ≤ heldLimit) × Ready c × (ascending compareDisjuncts (take m (disjunctsIn (now out))) ≡ true) ⌝ }
+    ensures { λ r. ⌜ grownIn r (now (out .exit)) ≡ within heldLimit (insertAll compareDisjuncts
         (metList (viewConstraint c) (viewDisjunct d ∷ [])) (take m (disjunctsIn (now (out .entry))))) ⌝ }
 {
     let x = d.meet(c);
@@ -61,9 +72,9 @@ fn add_met(out: &mut [u32; 3584], m: usize, d: Disjunct, c: Constraint) -> usize
 }
 
 // What the start gives to the step set of a position that begins.
-fn add_start(out: &mut [u32; 3584], begins: bool, c: Constraint) -> usize
+fn add_start(out: &mut Words, begins: bool, c: Constraint) -> usize
     requires { ⌜ Ready c ⌝ }
-    ensures { λ r. ⌜ (r ≤ 128) × (take r (disjunctsIn (now (out .exit))) ≡ metSet (viewConstraint c) (withStart begins [])) ⌝ }
+    ensures { λ r. ⌜ (r ≤ heldLimit) × (take r (disjunctsIn (now (out .exit))) ≡ metSet (viewConstraint c) (withStart begins [])) ⌝ }
 {
     if begins {
         return add_met(out, 0, Disjunct::free(), c);
@@ -73,16 +84,16 @@ fn add_start(out: &mut [u32; 3584], begins: bool, c: Constraint) -> usize
 
 // The disjuncts whose mask has q, met with c, put among the first `count`.
 fn add_sources(
-    held: &[u32; 3584],
-    masks: &[u32; 128],
+    held: &Words,
+    masks: &[u32; CAPACITY],
     n: usize,
     q: usize,
     c: Constraint,
-    out: &mut [u32; 3584],
+    out: &mut Words,
     count: usize,
 ) -> usize
-    requires { ⌜ (n ≤ 128) × (q ≤ 31) × Ready c × (count ≤ 128) × (ascending compareDisjuncts (take count (disjunctsIn (now out))) ≡ true) ⌝ }
-    ensures { λ r. ⌜ grownIn r (now (out .exit)) ≡ within 128 (insertAll compareDisjuncts (metList (viewConstraint c)
+    requires { ⌜ (n ≤ heldLimit) × (q ≤ occurrenceLimit) × Ready c × (count ≤ heldLimit) × (ascending compareDisjuncts (take count (disjunctsIn (now out))) ≡ true) ⌝ }
+    ensures { λ r. ⌜ grownIn r (now (out .exit)) ≡ within heldLimit (insertAll compareDisjuncts (metList (viewConstraint c)
         (pick (λ m. bit q m) (take n (now (masks .entry))) (take n (disjunctsIn (now (held .entry)))))) (take count (disjunctsIn (now (out .entry))))) ⌝ }
 {
     let mut m = count;
@@ -91,8 +102,8 @@ fn add_sources(
         if has(masks[i], q) {
             let d = sets::get(held, i);
             m = add_met(out, m, d, c);
-            if 128 < m {
-                return 129;
+            if CAPACITY < m {
+                return NO_ROOM;
             }
         }
         i += 1;
@@ -100,18 +111,18 @@ fn add_sources(
     m
 }
 
-// The step set of q: how many disjuncts it has, or 129 where there is no room for it.
+// The step set of q: how many disjuncts it has, or NO_ROOM for it.
 pub fn step_set(
-    held: &[u32; 3584],
-    masks: &[u32; 128],
+    held: &Words,
+    masks: &[u32; CAPACITY],
     n: usize,
     q: usize,
     begins: bool,
     c: Constraint,
-    out: &mut [u32; 3584],
+    out: &mut Words,
 ) -> usize
-    requires { ⌜ (n ≤ 128) × (q ≤ 31) × Ready c ⌝ }
-    ensures { λ r. ⌜ grownIn r (now (out .exit)) ≡ within 128 (metSet (viewConstraint c)
+    requires { ⌜ (n ≤ heldLimit) × (q ≤ occurrenceLimit) × Ready c ⌝ }
+    ensures { λ r. ⌜ grownIn r (now (out .exit)) ≡ within heldLimit (metSet (viewConstraint c)
         (withStart begins (pick (λ m. bit q m) (take n (now (masks .entry))) (take n (disjunctsIn (now (held .entry))))))) ⌝ }
 {
     if c.ok {

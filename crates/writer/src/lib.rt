@@ -1,16 +1,22 @@
-// The bytes of rows: 24 to each, written into the lent buffer from a given place on. For the event call.
+// The bytes of rows, written into the lent buffer from a given place on. For the event call.
+use rows::Valuation;
+use rows::Words;
 ghost use mathlib.Core.Path.{_≡_};
 ghost use Prim.Native.Nat.{_+_, _*_, _≤_};
 ghost use lib.ListN.{length, take};
 ghost use Rattle.laws.specs.Lists.{gather};
 ghost use Rattle.laws.specs.Parts.{front, splice};
-ghost use Rattle.work.specs.Bounded.{rowLimit};
+ghost use Rattle.form.specs.Limits.{variableLimit};
+ghost use Rattle.bounded.specs.Bounded.{rowLimit};
 ghost use Rattle.rows.specs.Valuations.{valuationsIn};
-ghost use Rattle.writer.specs.RowBytes.{rowBytes};
+ghost use Rattle.writer.specs.RowBytes.{rowSize, rowBytes};
+
+// "Row, 24 bytes, no header"
+pub const ROW: usize = 24;
 
 // One row: the event number, the variable count, three zeros and four values, little-endian.
-fn row_bytes(number: u32, variables: usize, x: [u32; 4]) -> [u8; 24]
-    requires { ⌜ variables ≤ 4 ⌝ }
+fn row_bytes(number: u32, variables: usize, x: Valuation) -> [u8; ROW]
+    requires { ⌜ variables ≤ variableLimit ⌝ }
     ensures { λ r. ⌜ r ≡ rowBytes number variables x ⌝ }
 {
     let a = x[0];
@@ -46,27 +52,27 @@ fn row_bytes(number: u32, variables: usize, x: [u32; 4]) -> [u8; 24]
 }
 
 // One row over the beginning of a part.
-fn put_row(out: &mut [u8], row: [u8; 24])
-    requires { ⌜ 24 ≤ length (now out) ⌝ }
+fn put_row(out: &mut [u8], row: [u8; ROW])
+    requires { ⌜ rowSize ≤ length (now out) ⌝ }
     ensures { λ _. ⌜ now (out .exit) ≡ front row (now (out .entry)) ⌝ }
 {
     let mut i: usize = 0;
-    while i < 24 {
+    while i < ROW {
         out[i] = row[i];
         i += 1;
     }
 }
 
 // The first n rows over the beginning of a part.
-fn put_rows(out: &mut [u8], words: &[u32; 8256], n: usize, number: u32, variables: usize)
-    requires { ⌜ (variables ≤ 4) × (n ≤ rowLimit) × (24 * n ≤ length (now out)) ⌝ }
+fn put_rows(out: &mut [u8], words: &Words, n: usize, number: u32, variables: usize)
+    requires { ⌜ (variables ≤ variableLimit) × (n ≤ rowLimit) × (rowSize * n ≤ length (now out)) ⌝ }
     ensures { λ _. ⌜ now (out .exit) ≡ front (gather (rowBytes number variables) (take n (valuationsIn (now (words .entry))))) (now (out .entry)) ⌝ }
 {
     let mut i: usize = 0;
     while i < n {
         let x = rows::get(words, i);
         let row = row_bytes(number, variables, x);
-        let at = 24 * i;
+        let at = ROW * i;
         put_row(&mut out[at..], row);
         i += 1;
     }
@@ -76,12 +82,12 @@ fn put_rows(out: &mut [u8], words: &[u32; 8256], n: usize, number: u32, variable
 pub fn write_rows(
     out: &mut [u8],
     place: usize,
-    words: &[u32; 8256],
+    words: &Words,
     n: usize,
     number: u32,
     variables: usize,
 )
-    requires { ⌜ (variables ≤ 4) × (n ≤ rowLimit) × (place + 24 * n ≤ length (now out)) ⌝ }
+    requires { ⌜ (variables ≤ variableLimit) × (n ≤ rowLimit) × (place + rowSize * n ≤ length (now out)) ⌝ }
     ensures { λ _. ⌜ now (out .exit) ≡ splice place (gather (rowBytes number variables) (take n (valuationsIn (now (words .entry))))) (now (out .entry)) ⌝ }
 {
     put_rows(&mut out[place..], words, n, number, variables);

@@ -15,7 +15,7 @@ use Rattle.laws.proofs.Parts.{pad-at}
 use Rattle.pattern.specs.Regex.{lit}
 use Rattle.meaning.specs.Events as Events
 use Rattle.meaning.specs.Meaning.{noSymbol}
-use Rattle.meaning.specs.Book.{soundPlace, boundIn}
+use Rattle.meaning.specs.Book.{soundParameter, boundIn}
 use Rattle.form.specs.Text.{Bytes, Span}
 use Rattle.form.specs.Scan.{go, fail, nameEnd, part}
 use Rattle.form.specs.Lines.{indexOf}
@@ -38,9 +38,9 @@ getD-in f (x ∷ l) zero d e h = refl
 getD-in f (x ∷ l) (suc i) d e h = getD-in f l i d e (omega arith)
 
 -- a sound place of few variables is one of 32
-wider : (n : ℕ) → n ≤ 32 → (p : Events.Place) → soundPlace n p ≡ true → soundPlace 32 p ≡ true
-wider n h Events.Place.ignored e = refl
-wider n h (Events.Place.names v) e = lt-ltb v 32 (omega (arith, ltb-true v n e))
+wider : (n : ℕ) → n ≤ 32 → (p : Events.Parameter) → soundParameter n p ≡ true → soundParameter 32 p ≡ true
+wider n h Events.Parameter.ignored e = refl
+wider n h (Events.Parameter.names v) e = lt-ltb v 32 (omega (arith, ltb-true v n e))
 
 -- a ready table and its plain view
 module _ (s : Bytes) (t : Table) (ready : Ready s t) where
@@ -68,8 +68,8 @@ module _ (s : Bytes) (t : Table) (ready : Ready s t) where
     mem : List·Memᴰ plain (viewTable t .table)
     mem = mem-getD _ a noSymbol known
 
-    few : length (plain .places) ≤ 4
-    few = leb-true _ 4 (all-at _ (ready .fewPlaces) mem)
+    few : length (plain .parameters) ≤ 4
+    few = leb-true _ 4 (all-at _ (ready .fewParameters) mem)
 
     coded : getD (t .symbols) a d ≡ symbolOf plain
     unfolding tableOf
@@ -82,12 +82,12 @@ module _ (s : Bytes) (t : Table) (ready : Ready s t) where
     viewed : viewSymbol (getD (t .symbols) a d) ≡ plain
     viewed = ap viewSymbol coded ∙ view-symbol plain few
 
-    fits : (getD (t .symbols) a d .count ≤ 4) × (all (soundPlace 32) (viewSymbol (getD (t .symbols) a d) .places) ≡ true)
+    fits : (getD (t .symbols) a d .count ≤ 4) × (all (soundParameter 32) (viewSymbol (getD (t .symbols) a d) .parameters) ≡ true)
     unfolding symbolOf
     fits =
         let sound = all-at _ (ready .declared) mem in
         let e : t .variables ≤ 32 = omega arith in
-        (rw coded few, rw viewed (all-of _ (plain .places) (λ p m. wider _ e p (all-at _ sound m))))
+        (rw coded few, rw viewed (all-of _ (plain .parameters) (λ p m. wider _ e p (all-at _ sound m))))
 
 -- what is left to say of a name that is short enough and not one too many
 name-at : (s : Bytes) (l : List Span) (used q e a : ℕ) → e ≡ nameEnd s q → e - q ≤ 12 → used < 31 → a ≡ indexOf s l (part s q e)
@@ -187,7 +187,7 @@ returns-3 c =
     let a = f .find .result in
     let h = c .before .before .before .if3 .taken in
     let r = start .pre .ready in
-    let b = c .before .bound-in .ensures ∙ ap (λ y. boundIn (y .places)) (viewed s t r a h _) in
+    let b = c .before .bound-in .ensures ∙ ap (λ y. boundIn (y .parameters)) (viewed s t r a h _) in
     rw (
       known-name f,
       named s t r,

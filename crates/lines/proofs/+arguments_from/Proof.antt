@@ -6,7 +6,7 @@ use borrow.Author.Needs.{needs}
 use borrow.Fn.Kinds.{In}
 use borrow.Fn.PlainCycle.{Measures, is, falls, and}
 use lib.ListN.{length}
-use Rattle.meaning.specs.Events.{Place}
+use Rattle.meaning.specs.Events.{Parameter}
 use Rattle.form.specs.Scan.{nextWord}
 use Rattle.form.specs.Lines.{argumentOf}
 use Rattle.form.proofs.Scans.{wordEnd-ge, wordEnd-le}
@@ -124,7 +124,7 @@ module _ (t : ℕ) where
   argument-of-requires c κs = argument-fault-requires (c .before .before) κs
 
   -- the argument that is read
-  abbrev argument : (c : lts.After-argument-of (known t) (given t) own.Post) → Place
+  abbrev argument : (c : lts.After-argument-of (known t) (given t) own.Post) → Parameter
   argument c =
       let w = worded c in
       let n = stepped-to w in
