@@ -103,7 +103,7 @@ pub empty-book : (s : Bytes) → (numberOf (reading s .answer) ≡ 0 → ⊥)
 unfolding emptyBook heldTable symbolOf pad
 empty-book s h = refusal-book s h .0
 
--- lines that say something in form have few argument places
+-- lines that say something in form have few parameters
 few-parameters : (v : ℕ) (l : List Symbol) → all (soundSymbol v) l ≡ true → all (λ y. leb (length (y .parameters)) 4) l ≡ true
 unfolding soundSymbol
 few-parameters v l h = all-of _ l λ y m. simp and-eq-true-iff at (all-at (soundSymbol v) h m) .0 .1

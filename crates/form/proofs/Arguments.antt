@@ -32,7 +32,7 @@ parameterOf vs w = let v = names (indexIn vs w) in cond (sameWord w ignoredWord)
 argument-of : {s : Bytes} {p : ℕ} {w rest : Bytes} → Word s p w rest → (xs : List Span) → argumentOf s xs p (wordEnd s p) ≡ parameterOf (map (bytesAt s) xs) w
 argument-of {w} h xs = rw (word-part h) (ap (λ i. cond (sameWord w ignoredWord) ignored (names i)) (index-of _ xs w))
 
--- a word of ARGS is that of its place
+-- a word of ARGS is that of its parameter
 parameter-found : (vs : List Bytes) (w : Bytes) → isArgument vs w ≡ true → (parameterWord vs (parameterOf vs w) ≡ w) × (soundParameter (length vs) (parameterOf vs w) ≡ true)
 parameter-found vs w = by (sameWord w ignoredWord) refl
   where
@@ -41,7 +41,7 @@ parameter-found vs w = by (sameWord w ignoredWord) refl
     by true e h = (sym (same-word w ignoredWord .0 e), refl)
     by false e h = let k = and-true-split (isName w) (known vs w) h .1 in (getD-index vs w k, index-known vs w ∙ k)
 
--- a place's word is read back
+-- a parameter's word is read back
 module _ (vs : List Bytes) (named : all isName vs ≡ true) (d : distinct vs ≡ true) where
   name-not-ignored : (w : Bytes) → isName w ≡ true → sameWord w ignoredWord ≡ false
   name-not-ignored w h = by (sameWord w ignoredWord) refl

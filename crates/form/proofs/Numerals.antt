@@ -1,4 +1,4 @@
--- KIND and ARGS as words: decimal numbers, and words that stand for argument places.
+-- KIND and ARGS as words: decimal numbers, and words that stand for parameters.
 use mathlib.Core.Path.{_≡_, refl, ap₂}
 use mathlib.Core.Bool.{Bool, true, false, cond, not, _&&_}
 use mathlib.Core.List.{[], _∷_}

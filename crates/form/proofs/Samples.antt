@@ -1,4 +1,5 @@
--- Theorem `sampled`: every text of the table is read as document 01 has it, by computation from the definitions alone.
+-- Theorem `sampled`: every text of the table is read as document 01 has it, by computation from the definitions alone. List by list, so
+-- that a refusal says which reading is another.
 use mathlib.Core.Path.{_≡_, refl}
 use mathlib.Core.List.{map, map-append}
 use Rattle.laws.specs.Bits.{bit, join, meet, single}
@@ -7,12 +8,22 @@ use Rattle.form.specs.Scan.{spacesEnd, wordEnd, nameEnd, nextWord, nameF
 use Rattle.form.specs.Lines.{wantWord, kindFrom, symbolFrom, linesOf}
 use Rattle.form.specs.Parse.{itemOf, nameAtom, closed, alternationFrom, patternFrom}
 use Rattle.form.specs.Reading.{lastLine, matchFrom, readingOf}
-use Rattle.form.specs.Samples.{outcome, wanted, books, lines, patterns, many, deep, long, table}
+use Rattle.form.specs.Samples.{outcome, wanted, first, full, variables, lines, patterns, many, deep, long, table}
 
-books-read : map outcome books ≡ map wanted books
+first-read : map outcome first ≡ map wanted first
 unfolding bit join meet single decimal header text spacesEnd wordEnd nameEnd nextWord nameFault kindOf wantWord kindFrom symbolFrom linesOf itemOf
-    nameAtom closed alternationFrom patternFrom lastLine matchFrom readingOf books
-books-read = refl
+    nameAtom closed alternationFrom patternFrom lastLine matchFrom readingOf first
+first-read = refl
+
+full-read : map outcome full ≡ map wanted full
+unfolding bit join meet single decimal header text spacesEnd wordEnd nameEnd nextWord nameFault kindOf wantWord kindFrom symbolFrom linesOf itemOf
+    nameAtom closed alternationFrom patternFrom lastLine matchFrom readingOf full
+full-read = refl
+
+variables-read : map outcome variables ≡ map wanted variables
+unfolding bit join meet single decimal header text spacesEnd wordEnd nameEnd nextWord nameFault kindOf wantWord kindFrom symbolFrom linesOf itemOf
+    nameAtom closed alternationFrom patternFrom lastLine matchFrom readingOf variables
+variables-read = refl
 
 lines-read : map outcome lines ≡ map wanted lines
 unfolding bit join meet single decimal header text spacesEnd wordEnd nameEnd nextWord nameFault kindOf wantWord kindFrom symbolFrom linesOf itemOf
@@ -40,4 +51,4 @@ unfolding bit join meet single decimal header text spacesEnd wordEnd nameEnd nex
 long-read = refl
 
 pub sampled : map outcome table ≡ map wanted table
-sampled = simp (map-append, books-read, lines-read, patterns-read, many-read, deep-read, long-read)
+sampled = simp (map-append, first-read, full-read, variables-read, lines-read, patterns-read, many-read, deep-read, long-read)

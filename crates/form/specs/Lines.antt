@@ -23,7 +23,7 @@ abbrev pub indexOf : Bytes → List Span → Bytes → ℕ
 indexOf s [] w = 0
 indexOf s (x ∷ xs) w = let r = suc (indexOf s xs w) in cond (sameWord (bytesAt s x) w) 0 r
 
--- what has been declared so far: the places of the names, and the symbols' kinds and argument places
+-- what has been declared so far: the places of the names, and the symbols' kinds and parameters
 pub record Table : Type 0 where
   pub variables : List Span
   pub symbols : List Span
@@ -61,7 +61,7 @@ pub record Arguments : Type 0 where
   pub parameters : List Parameter
 
 -- the fault of the word from p to e as an argument, 0 where it is `_` or a declared variable ("a symbol's name among ARGS …
--- is 5"), and the place it stands for
+-- is 5"), and the parameter it stands for
 abbrev pub argumentFault : Bytes → List Span → (p e : ℕ) → ℕ
 argumentFault s xs p e =
     let n = nameFault s p e in

@@ -1,5 +1,6 @@
 -- Texts with their readings by document 01, each limit from both sides: the number and place of a refusal, or what is declared, where each
 -- name stands, and the pattern's tree. The theorem about the whole table is in ../proofs/Samples.antt.
+use mathlib.Core.Bool.{Bool, true, false}
 use mathlib.Core.List.{List, [], _∷_, _++_, map}
 use Prim.Native.Nat.{ℕ, zero, suc}
 use Prim.Native.String.{String}
@@ -8,7 +9,7 @@ use Rattle.laws.specs.Lists.{gather}
 use Rattle.pattern.specs.Regex.{Regex, lit, cat, alt, star, plus, opt}
 use Rattle.meaning.specs.Events.{Parameter, ignored, names}
 use Rattle.form.specs.Text.{Bytes, ascii, space, SymbolLine, Declarations, symbolOf, Span, spans, text}
-use Rattle.form.specs.Form.{symbolNames}
+use Rattle.form.specs.Form.{sameWord, symbolNames}
 use Rattle.form.specs.Scan.{fail}
 use Rattle.form.specs.Lines.{Table, bytesAt}
 use Rattle.form.specs.Reading.{Outcome, refused, readingOf}
@@ -25,22 +26,22 @@ pub data Sample : Type 0 where
   accepts : Bytes → Read → Sample
   refuses : Bytes → (number place : ℕ) → Sample
 
--- what the reader gives, and of an accepted text what the printer writes, where it puts the names, and the bytes there
+-- what the reader gives, and of an accepted text whether the printer writes it, where it puts the names, and the bytes there
 pub record Result : Type 0 where
   pub reading : Outcome
-  pub printed : Bytes
+  pub printed : Bool
   pub named : List Span
   pub variables : List Bytes
   pub symbols : List Bytes
 
 abbrev refusal : Outcome → Result
-refusal o = record { reading = o; printed = []; named = []; variables = []; symbols = [] }
+refusal o = record { reading = o; printed = false; named = []; variables = []; symbols = [] }
 
 abbrev pub outcome : Sample → Result
 outcome (accepts s r) =
     record {
       reading = readingOf s;
-      printed = text (r .declared) (r .written);
+      printed = sameWord (text (r .declared) (r .written)) s;
       named = spans (r .declared);
       variables = map (bytesAt s) (r .variables);
       symbols = map (bytesAt s) (r .symbols);
@@ -52,7 +53,7 @@ wanted (accepts s r) =
     let table : Table = record { variables = r .variables; symbols = r .symbols; table = map symbolOf (r .declared .symbols) } in
     record {
       reading = record { number = 0; place = 0; table = table; tree = r .tree };
-      printed = s;
+      printed = true;
       named = r .variables ++ r .symbols;
       variables = r .declared .variables;
       symbols = symbolNames (r .declared);
@@ -82,9 +83,9 @@ abbrev behind : ℕ → Regex
 behind zero = lit 0
 behind (suc n) = cat (lit 0) (behind n)
 
--- B1; and a book with four variables, a name of 12 bytes, KIND 255, `_` and a variable twice among four arguments, each sign of a pattern
-unfoldable pub books : List Sample
-books =
+-- B1
+unfoldable pub first : List Sample
+first =
     accepts (ascii "vars d s\nsym load 1 d s\nsym drop 2 d\nsym clean 3 d\nmatch load drop+\n")
     (record {
       declared = record {
@@ -96,7 +97,12 @@ books =
       symbols = span 13 4 ∷ span 28 4 ∷ span 41 5 ∷ [];
       tree = cat (lit 0) (plus (lit 1));
     })
-    ∷ accepts (ascii "vars a b c d\nsym abcdefghijk9 255 a a _ b\nsym e 10 c d\nmatch  (e | abcdefghijk9)?* abcdefghijk9 e+ \n")
+    ∷ []
+
+-- four variables, a name of 12 bytes, KIND 255, `_` and a variable twice among four arguments, each sign of a pattern
+unfoldable pub full : List Sample
+full =
+    accepts (ascii "vars a b c d\nsym abcdefghijk9 255 a a _ b\nsym e 10 c d\nmatch  (e | abcdefghijk9)?* abcdefghijk9 e+ \n")
     (record {
       declared = record {
         variables = ascii "a" ∷ ascii "b" ∷ ascii "c" ∷ ascii "d" ∷ [];
@@ -109,16 +115,21 @@ books =
     })
     ∷ []
 
--- the lines before the pattern, and the end
-unfoldable pub lines : List Sample
-lines =
-    refuses [] 2 0
-    ∷ refuses (ascii "vars a b c d e") 3 13
+-- the line of variables
+unfoldable pub variables : List Sample
+variables =
+    refuses (ascii "vars a b c d e") 3 13
     ∷ refuses (ascii "vars abcdefghijklm") 3 5
+    ∷ refuses [] 2 0
     ∷ refuses (ascii "vars  a\n") 2 5
     ∷ refuses (ascii "vars a \n") 2 6
     ∷ refuses (ascii "vars a a\n") 4 7
-    ∷ refuses (ascii "vars a\nmatch a\n") 2 7
+    ∷ []
+
+-- the lines of symbols, and the end
+unfoldable pub lines : List Sample
+lines =
+    refuses (ascii "vars a\nmatch a\n") 2 7
     ∷ refuses (ascii "vars a\nsym a 1\n") 4 11
     ∷ refuses (ascii "vars\nsym a\n") 2 10
     ∷ refuses (ascii "vars\nsym a 256\n") 2 11
@@ -132,12 +143,12 @@ lines =
 -- patterns; "No word of the pattern may be empty, and each word must contain, for each variable, a symbol that binds it."
 unfoldable pub patterns : List Sample
 patterns =
-    refuses (oneText (ascii "a |")) 6 22
+    refuses (ascii "vars d s\nsym a 1 d\nmatch a\n") 8 25
+    ∷ refuses (oneText (ascii " a*")) 7 20
+    ∷ refuses (oneText (ascii "a |")) 6 22
     ∷ refuses (oneText (ascii "(a")) 6 21
     ∷ refuses (oneText (ascii "a b")) 5 21
     ∷ refuses (oneText (ascii "abcdefghijklm")) 3 19
-    ∷ refuses (oneText (ascii " a*")) 7 20
-    ∷ refuses (ascii "vars d s\nsym a 1 d\nmatch a\n") 8 25
     ∷ []
 
 -- "At most 31 symbol occurrences"
@@ -162,4 +173,4 @@ long =
     ∷ []
 
 abbrev pub table : List Sample
-table = books ++ (lines ++ (patterns ++ (many ++ (deep ++ long))))
+table = first ++ (full ++ (variables ++ (lines ++ (patterns ++ (many ++ (deep ++ long))))))

@@ -107,7 +107,7 @@ module _ (s : Bytes) (xs : List Span) (ps : List Parameter) (p : ℕ) {x : Scan.
         pub argument-next : f ≡ 0 → argumentsFrom s xs (4 - count) ps p ≡ argument-more
         argument-next h = argument-word ∙ rw (eq-eqb f 0 h)
 
--- a symbol with one more place
+-- a symbol with one more parameter
 abbrev pub oneMore : Symbol → Tables.Parameter → Symbol
 oneMore y w = record { kind = y .kind; count = y .count + 1; parameters = set (y .parameters) (y .count) w }
 
@@ -134,7 +134,7 @@ module _ {y : Symbol} (h : y ≡ symbolOf (viewSymbol y)) where
   unfolding symbolOf
   coded-count = ap (λ z. z .count) h
 
-  -- with the place w more, which codes a
+  -- with the parameter w more, which codes a
   module _ (l : y .count < 4) (a : Parameter) {w : Tables.Parameter} (e : w ≡ parameterOf a) where
     abbrev more : Events.Symbol
     more = record { kind = y .kind; parameters = viewSymbol y .parameters ++ (a ∷ []) }

@@ -99,7 +99,7 @@ variables-ready s xs h i =
       b,
     )
 
--- at most n places, each ignored or a declared variable
+-- at most n parameters, each ignored or a declared variable
 record ArgumentsSound (s : Bytes) (variables n : ℕ) (a : Arguments) : Type 0 where
   pub few : length (a .parameters) ≤ n
   pub declared : all (soundParameter variables) (a .parameters) ≡ true
@@ -130,7 +130,7 @@ module _ (s : Bytes) (xs : List Span) (n : ℕ) where
       (λ g. arguments-kept ps _ (omega arith) i h)))
       (λ f. arguments-kept ps q (omega arith) i h)
 
--- a symbol's name inside the text, and its places
+-- a symbol's name inside the text, and its parameters
 record SymbolSound (s : Bytes) (variables : ℕ) (r : SymbolRead) : Type 0 where
   pub inText : inside (length s) (r .name) ≡ true
   pub few : length (r .symbol .parameters) ≤ 4

@@ -127,7 +127,7 @@ fn argument_fault(s: &[u8], t: Table, p: usize, e: usize) -> usize
     5
 }
 
-// The place that an argument word stands for.
+// The parameter that an argument word stands for.
 fn argument_of(s: &[u8], t: Table, p: usize, e: usize) -> Parameter
     requires { ⌜ Ready (now s) t × (p ≤ e) × (e ≤ length (now s)) ⌝ }
     ensures { λ r. ⌜ r ≡ parameterOf (Lines.argumentOf (now (s .entry)) (viewTable t .variables) p e) ⌝ }

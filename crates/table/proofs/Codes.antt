@@ -56,7 +56,7 @@ view-back y = ap (λ (l : List Events.Parameter). record { kind = y .kind; param
 pub view-symbol : (y : Events.Symbol) → length (y .parameters) ≤ 4 → viewSymbol (symbolOf y) ≡ y
 view-symbol y h = view-back y
 
--- one more argument place
+-- one more parameter
 pub symbol-more : (y : Events.Symbol) (p : Events.Parameter) → length (y .parameters) < 4
     → record { kind = y .kind; count = length (y .parameters) + 1; parameters = set (symbolOf y .parameters) (length (y .parameters)) (parameterOf p) }
     ≡ symbolOf (record { kind = y .kind; parameters = y .parameters ++ (p ∷ []) })

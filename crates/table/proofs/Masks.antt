@@ -1,4 +1,4 @@
--- Masks of the variables that places bind, joined place by place.
+-- Masks of the variables that parameters bind, joined one by one.
 use mathlib.Core.Path.{_≡_, sym, ap, _∙_}
 use mathlib.Core.Bool.{or-assoc}
 use mathlib.Core.List.{List, [], _∷_}
@@ -16,6 +16,6 @@ bound-cons : (p : Parameter) (ps : List Parameter) → boundIn (p ∷ ps) ≡ jo
 bound-cons ignored ps = sym (none-join (boundIn ps))
 bound-cons (names v) ps = ap (λ m. join m (boundIn ps)) (sym (join-none (single v)))
 
--- the mask r of the first place, joined to m before the masks of the others
+-- the mask r of the first parameter, joined to m before the masks of the others
 pub join-next : (m : ℕ) {r : ℕ} {p : Parameter} {ps l : List Parameter} → r ≡ boundIn (p ∷ []) → l ≡ p ∷ ps → join (join m r) (boundIn ps) ≡ join m (boundIn l)
 join-next m {p = p} {ps} e f = rw (e, f) (join-assoc m (boundIn (p ∷ [])) (boundIn ps) ∙ ap (join m) (sym (bound-cons p ps)))

@@ -26,7 +26,7 @@ namesLimit = variableLimit + symbolLimit
 abbrev pub maskBits : ℕ
 maskBits = 32
 
--- plain to code; the canonical padding is the ignored place, the empty symbol, the empty name
+-- plain to code; the canonical padding is the ignored parameter, the empty symbol, the empty name
 abbrev pub parameterOf : Events.Parameter → Parameter
 parameterOf Events.Parameter.ignored = record { tag = 0; number = 0 }
 parameterOf (Events.Parameter.names v) = record { tag = 1; number = v }
@@ -72,8 +72,8 @@ viewTable t =
 abbrev pub inside : ℕ → Span → Bool
 inside n x = leb (x .start + x .size) n
 
--- a table that the reader has built over the text s: canonical, within the limits, its names inside the text, its argument
--- places ignored or declared variables
+-- a table that the reader has built over the text s: canonical, within the limits, its names inside the text, its
+-- parameters ignored or declared variables
 pub record Ready (s : Bytes) (t : Table) : Type 0 where
   pub coded : t ≡ tableOf (viewTable t)
   pub fewVariables : t .variables ≤ variableLimit

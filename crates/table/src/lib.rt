@@ -21,7 +21,7 @@ pub const PARAMETERS: usize = 4;
 
 pub const NAMES: usize = VARIABLES + SYMBOLS;
 
-// An argument place of a symbol: tag 0, ignored; tag 1, the variable with that number.
+// A parameter of a symbol: tag 0, ignored; tag 1, the variable with that number.
 pub struct Parameter {
     pub tag: u32,
     pub number: u32,
@@ -119,7 +119,7 @@ pub fn with_symbol(t: Table, n: Name, y: Symbol) -> Table
     r
 }
 
-// The variables that a place binds, one bit to a variable.
+// The variables that a parameter binds, one bit to a variable.
 fn parameter_bound(p: Parameter) -> u32
     requires { ⌜ soundParameter maskBits (viewParameter p) ≡ true ⌝ }
     ensures { λ r. ⌜ r ≡ boundIn (viewParameter p ∷ []) ⌝ }

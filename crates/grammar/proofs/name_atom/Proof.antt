@@ -37,7 +37,7 @@ getD-in f [] i d e h = absurd (omega arith)
 getD-in f (x ∷ l) zero d e h = refl
 getD-in f (x ∷ l) (suc i) d e h = getD-in f l i d e (omega arith)
 
--- a sound place of few variables is one of 32
+-- a sound parameter of few variables is one of 32
 wider : (n : ℕ) → n ≤ 32 → (p : Events.Parameter) → soundParameter n p ≡ true → soundParameter 32 p ≡ true
 wider n h Events.Parameter.ignored e = refl
 wider n h (Events.Parameter.names v) e = lt-ltb v 32 (omega (arith, ltb-true v n e))

@@ -1,4 +1,4 @@
--- `table::bound_in` meets its contract: the mask of the places passed, joined with that of those ahead.
+-- `table::bound_in` meets its contract: the mask of the parameters passed, joined with that of those ahead.
 use mathlib.Core.Path.{_≡_, sym, ap, _∙_}
 use mathlib.Core.Bool.{true}
 use mathlib.Core.List.{_∷_}
@@ -17,7 +17,7 @@ use Rattle.table.proofs.Masks.{join-next}
 use Rattle.table.proofs.bound_in.Statement.{statement}
 use Rattle.table.proofs.bound_in.Tie as tie
 
--- what is joined so far, with what the places ahead bind, is what all bind
+-- what is joined so far, with what the parameters ahead bind, is what all bind
 abbrev Inv-loop : tie.InvT-loop
 Inv-loop y m₀ n i₀ m i =
     let rest = ahead viewParameter (y .parameters) i n in
@@ -36,7 +36,7 @@ mul-p c = omega arith
 element-copy-out-p : tie.Need-element-copy-out-p Inv-loop μ-loop
 element-copy-out-p c = omega arith
 
--- the places ahead, by the first of them
+-- the parameters ahead, by the first of them
 first : (c : tie.In-loop Inv-loop μ-loop) → let y = c .before .before .args .t1 in let i = c .before .loop .i in
     ahead viewParameter (y .parameters) i (y .count)
     ≡ viewParameter (getD (y .parameters) i (record { tag = 0; number = 0 })) ∷ ahead viewParameter (y .parameters) (i + 1) (y .count)

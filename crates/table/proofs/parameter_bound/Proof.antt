@@ -1,4 +1,4 @@
--- `table::place_bound` meets its contract: the tag decides; the shifted bit is `single`.
+-- `table::parameter_bound` meets its contract: the tag decides; the shifted bit is `single`.
 use mathlib.Core.Path.{_≡_, sym, ap, _∙_}
 use mathlib.Core.Bool.{true, cond}
 use mathlib.Core.List.{[], _∷_}
