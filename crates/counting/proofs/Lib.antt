@@ -1,0 +1,2 @@
+-- What the two walks by hand share.
+pub mod Lent

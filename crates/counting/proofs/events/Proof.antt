@@ -1,0 +1,82 @@
+-- `counting::events` is safe and ends: the turns are counted.
+use Prim.Native.Nat.{_-_, _≤_}
+use borrow.Author.Needs.{needs}
+use Rattle.counting.proofs.events.Statement.{statement}
+use Rattle.counting.proofs.events.Tie as tie
+
+abbrev Inv-loop : tie.InvT-loop
+Inv-loop book state₀ tally₀ i₀ t9 t10 state tally i = i ≤ 9
+
+abbrev μ-loop : tie.MeasureT-loop
+μ-loop book state₀ tally₀ i₀ t9 t10 state tally i = 9 - i
+
+slice-aggregate-read : tie.Need-slice-aggregate-read Inv-loop μ-loop
+slice-aggregate-read c = search needs
+
+read-requires : tie.Need-read-requires Inv-loop μ-loop
+read-requires c κs = search needs
+
+fresh-requires : tie.Need-fresh-requires Inv-loop μ-loop
+fresh-requires c κs = search needs
+
+none-requires : tie.Need-none-requires Inv-loop μ-loop
+none-requires c κs = search needs
+
+loop-holds : tie.Need-loop-holds Inv-loop μ-loop
+loop-holds c = search needs
+
+taken-at-requires : tie.Need-taken-at-requires Inv-loop μ-loop
+taken-at-requires c κs = search needs
+
+number-of-requires : tie.Need-number-of-requires Inv-loop μ-loop
+number-of-requires c κs = search needs
+
+slice-aggregate-number : tie.Need-slice-aggregate-number Inv-loop μ-loop
+slice-aggregate-number c = search needs
+
+number-requires : tie.Need-number-requires Inv-loop μ-loop
+number-requires c κs = search needs
+
+slice-aggregate-number-2 : tie.Need-slice-aggregate-number-2 Inv-loop μ-loop
+slice-aggregate-number-2 c = search needs
+
+number-requires-2 : tie.Need-number-requires-2 Inv-loop μ-loop
+number-requires-2 c κs = search needs
+
+counters-requires : tie.Need-counters-requires Inv-loop μ-loop
+counters-requires c κs = search needs
+
+add-i : tie.Need-add-i Inv-loop μ-loop
+add-i c = search needs
+
+loop-less : tie.Need-loop-less Inv-loop μ-loop
+loop-less c = search needs
+
+loop-again : tie.Need-loop-again Inv-loop μ-loop
+loop-again c = search needs
+
+returns : tie.Need-returns Inv-loop μ-loop
+returns c = search needs
+
+pub events-spec : {M : Type 1} → statement M
+events-spec =
+    tie.close
+    (tie.spec
+    Inv-loop
+    μ-loop
+    slice-aggregate-read
+    read-requires
+    fresh-requires
+    none-requires
+    loop-holds
+    taken-at-requires
+    number-of-requires
+    slice-aggregate-number
+    number-requires
+    slice-aggregate-number-2
+    number-requires-2
+    counters-requires
+    add-i
+    loop-less
+    loop-again
+    returns)

@@ -1,0 +1,184 @@
+// The calls that change a lent tally, `counted::event` and `tally::count`, run: document 01's six events of B1 with refused ones between,
+// whose answers, rows and counters are printed, and counters that stop at the largest 64-bit value.
+use book::Book;
+use counted::Given;
+use state::State;
+use tally::Tally;
+use watch::Taken;
+ghost use mathlib.Core.Path.{_≡_};
+ghost use Rattle.tally.specs.Tallies.{tallied};
+ghost use Rattle.watch.specs.Calls.{taken, bufferAfter};
+
+// How many events there are, the buffer that is lent for rows, and the largest value of a counter.
+const EVENTS: usize = 9;
+
+const ROOM: usize = 64;
+
+const LARGEST: u64 = 18446744073709551615;
+
+// All that an event call hands back, and the tally that it changed.
+fn joined(g: Given, t: Tally) -> Taken
+    ensures { λ r. ⌜ r ≡ record { answer = g .answer; rows = g .rows; book = g .book; state = g .state; tally = t } ⌝ }
+{
+    let answer = g.answer;
+    let book = g.book;
+    let state = g.state;
+    Taken {
+        answer: answer,
+        rows: g.rows,
+        book: book,
+        state: state,
+        tally: t,
+    }
+}
+
+// An event call with the tally lent.
+fn event(
+    book: Book,
+    state: State,
+    bytes: &[u8],
+    rows: &mut [u8],
+    place: usize,
+    tally: Tally,
+) -> Taken
+    ensures { λ r. ⌜ (r ≡ taken book state (now (bytes .entry)) (now (rows .entry)) place tally)
+        × (now (rows .exit) ≡ bufferAfter book state (now (bytes .entry)) (now (rows .entry)) place) ⌝ }
+{
+    let mut t = tally;
+    let g = counted::event(book, state, bytes, rows, place, &mut t);
+    joined(g, t)
+}
+
+// A tally lent to be counted on.
+fn count(tally: Tally, accepted: u64, refused: u64, rows: u64) -> Tally
+    ensures { λ r. ⌜ r ≡ tallied tally accepted refused rows ⌝ }
+{
+    let mut t = tally;
+    tally::count(&mut t, accepted, refused, rows);
+    t
+}
+
+// The k-th byte that matters of event number i: kind, count, two arguments. The second is of kind 0, the eighth has a count above four.
+fn byte(i: usize, k: usize) -> u8 {
+    let table = [
+        1,
+        2,
+        1,
+        7,
+        0,
+        2,
+        1,
+        7,
+        1,
+        2,
+        2,
+        8,
+        2,
+        1,
+        1,
+        0,
+        2,
+        1,
+        1,
+        0,
+        3,
+        1,
+        2,
+        0,
+        2,
+        1,
+        2,
+        0,
+        2,
+        5,
+        1,
+        0,
+        2,
+        1,
+        1,
+        0,
+    ];
+    table[(i % EVENTS * 4 + k % 4) % 36]
+}
+
+fn record(i: usize) -> [u8; 20] {
+    [
+        byte(i, 0),
+        byte(i, 1),
+        0,
+        0,
+        byte(i, 2),
+        0,
+        0,
+        0,
+        byte(i, 3),
+        0,
+        0,
+        0,
+        0,
+        0,
+        0,
+        0,
+        0,
+        0,
+        0,
+        0,
+    ]
+}
+
+// The place is beyond the buffer at the fourth event.
+fn place_of(i: usize) -> usize {
+    if i == 3 { ROOM + 1 } else { 0 }
+}
+
+// Event number i.
+fn taken_at(i: usize, book: Book, state: State, tally: Tally) -> Taken {
+    let bytes = record(i);
+    let mut rows = [0u8; ROOM];
+    event(book, state, &bytes, &mut rows, place_of(i), tally)
+}
+
+fn number(n: u64, behind: &[u8]) {
+    io::print_decimal(1, n);
+    io::write_all(1, behind);
+}
+
+fn counters(t: Tally) {
+    number(t.accepted, b" ");
+    number(t.refused, b" ");
+    number(t.rows, b"\n");
+}
+
+// A line for each event: answer, rows, and the tally.
+fn events() {
+    let r = reader::read(
+        b"vars d s\nsym load 1 d s\nsym drop 2 d\nsym clean 3 d\nmatch load drop+\n",
+    );
+    let book = r.book;
+    let mut state = watch::fresh();
+    let mut tally = Tally::none();
+    let mut i: usize = 0;
+    while i < 9 {
+        let r = taken_at(i, book, state, tally);
+        let a = r.answer;
+        number(watch::number_of(a) as u64, b" ");
+        number(r.rows as u64, b": ");
+        counters(r.tally);
+        state = r.state;
+        tally = r.tally;
+        i += 1;
+    }
+}
+
+// Counters that come to the largest value, and stay there.
+fn main() {
+    events();
+    let t = Tally {
+        accepted: LARGEST - 1,
+        refused: LARGEST,
+        rows: 0,
+    };
+    let one = count(t, 1, 1, 5);
+    counters(one);
+    counters(count(one, 1, 0, LARGEST));
+}
