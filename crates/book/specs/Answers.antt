@@ -4,7 +4,8 @@ use Prim.Native.Nat.{ℕ}
 use lib.Dec.{eqb}
 use Rattle.form.specs.Limits.{textLimit}
 use Rattle.book.specs.declared.ReadingAnswer.{ReadingAnswer}
-use Rattle.book.specs.declared.ReadingAnswer.the-variants.{Accepted, TooLong, BadLine, AboveLimit, Redeclared, Undeclared, BadPattern, EmptyWord, Unbound}
+use Rattle.book.specs.declared.ReadingAnswer.the-variants.{Accepted, TooLong, BadLine, AboveLimit, Redeclared}
+use Rattle.book.specs.declared.ReadingAnswer.the-variants.{Undeclared, BadPattern, EmptyWord, Unbound}
 
 -- the number in the table of document 01, "What a call hands back"
 abbrev pub numberOf : ReadingAnswer → ℕ

@@ -40,7 +40,8 @@ pub data HeaderStop (s : Bytes) (q : ℕ) : ℕ → Type 0 where
   lastSpace : (k i : ℕ) (vs ss : List Span) → HeaderPrefix s q k i vs ss → at s q ≡ space → Ends s (spacesEnd s q) → HeaderStop s q 2
   twoSpaces : (p k i : ℕ) (vs ss : List Span) → HeaderPrefix s p k i vs ss → at s p ≡ space → at s (p + 1) ≡ space → (Ends s (spacesEnd s p) → ⊥)
       → q ≡ p + 1 → HeaderStop s q 2
-  badVariable : (p i n : ℕ) (vs : List Span) → HeaderPrefix s p 0 i vs [] → 1 ≤ i → i ≤ variableLimit → Gap s p → declareFault s vs (p + 1) (wordEnd s (p + 1)) ≡ n
+  badVariable : (p i n : ℕ) (vs : List Span) → HeaderPrefix s p 0 i vs [] → 1 ≤ i → i ≤ variableLimit → Gap s p
+      → declareFault s vs (p + 1) (wordEnd s (p + 1)) ≡ n
       → (n ≡ 0 → ⊥) → q ≡ p + 1 → HeaderStop s q n
   fifthVariable : (p : ℕ) (vs ss : List Span) → HeaderPrefix s p 0 (variableLimit + 1) vs ss → Gap s p → q ≡ p + 1 → HeaderStop s q 3
   fewWords : (k i : ℕ) (vs ss : List Span) → HeaderPrefix s q k i vs ss → 1 ≤ k → i ≤ 2 → at s q ≡ lf → HeaderStop s q 2
@@ -53,7 +54,8 @@ pub data HeaderStop (s : Bytes) (q : ℕ) : ℕ → Type 0 where
   fifthArgument : (p k : ℕ) (vs ss : List Span) → HeaderPrefix s p k (3 + parameterLimit) vs ss → 1 ≤ k → Gap s p → q ≡ p + 1 → HeaderStop s q 3
   badLine : (p k i : ℕ) (vs ss : List Span) → HeaderPrefix s p k i vs ss → k ≤ symbolLimit → (1 ≤ k → 3 ≤ i) → at s p ≡ lf → (wordAt s (p + 1) ≡ symWord → ⊥)
       → (wordAt s (p + 1) ≡ matchWord → k ≡ 0) → q ≡ p + 1 → HeaderStop s q 2
-  seventeenth : (p i : ℕ) (vs ss : List Span) → HeaderPrefix s p symbolLimit i vs ss → 3 ≤ i → at s p ≡ lf → wordAt s (p + 1) ≡ symWord → q ≡ p + 1 → HeaderStop s q 3
+  seventeenth : (p i : ℕ) (vs ss : List Span) → HeaderPrefix s p symbolLimit i vs ss → 3 ≤ i → at s p ≡ lf → wordAt s (p + 1) ≡ symWord → q ≡ p + 1
+      → HeaderStop s q 3
 
 -- the course has read up to the word `match`, which ends at e
 pub record Matched (s : Bytes) (e : ℕ) (vs ss : List Span) : Type 0 where

@@ -22,7 +22,8 @@ module _ (s : Bytes) (symbols : List Span) (start : ℕ) where
         → nameEnd s (spacesEnd s p) - spacesEnd s p ≤ nameLimit → k < occurrenceLimit
         → indexOf s symbols (part s (spacesEnd s p) (nameEnd s (spacesEnd s p))) < length symbols
         → PatternPrefix (nameEnd s (spacesEnd s p)) o true (suc k)
-    opened : (p o : ℕ) (e : Bool) (k : ℕ) → PatternPrefix p o e k → at s (spacesEnd s p) ≡ opening → o < openLimit → PatternPrefix (spacesEnd s p + 1) (suc o) false k
+    opened : (p o : ℕ) (e : Bool) (k : ℕ) → PatternPrefix p o e k → at s (spacesEnd s p) ≡ opening → o < openLimit
+        → PatternPrefix (spacesEnd s p + 1) (suc o) false k
     closed : (p o k : ℕ) → PatternPrefix p (suc o) true k → at s (spacesEnd s p) ≡ closing → PatternPrefix (spacesEnd s p + 1) o true k
     either : (p o k : ℕ) → PatternPrefix p o true k → at s (spacesEnd s p) ≡ bar → PatternPrefix (spacesEnd s p + 1) o false k
     postfix : (p o k : ℕ) → PatternPrefix p o true k → isPostfix (at s (spacesEnd s p)) ≡ true → PatternPrefix (spacesEnd s p + 1) o true k

@@ -33,7 +33,8 @@ argument-of : {s : Bytes} {p : ℕ} {w rest : Bytes} → Word s p w rest → (xs
 argument-of {w} h xs = rw (word-part h) (ap (λ i. cond (sameWord w ignoredWord) ignored (names i)) (index-of _ xs w))
 
 -- a word of ARGS is that of its parameter
-parameter-found : (vs : List Bytes) (w : Bytes) → isArgument vs w ≡ true → (parameterWord vs (parameterOf vs w) ≡ w) × (soundParameter (length vs) (parameterOf vs w) ≡ true)
+parameter-found : (vs : List Bytes) (w : Bytes) → isArgument vs w ≡ true
+    → (parameterWord vs (parameterOf vs w) ≡ w) × (soundParameter (length vs) (parameterOf vs w) ≡ true)
 parameter-found vs w = by (sameWord w ignoredWord) refl
   where
     by : (t : Bool) → sameWord w ignoredWord ≡ t → (t || (isName w && known vs w)) ≡ true
@@ -83,7 +84,8 @@ module _ (s : Bytes) (xs : List Span) (vs : List Bytes) (g : map (bytesAt s) xs 
       let t : isArgument (map (bytesAt s) xs) w ≡ true = rw g k in
       rw (n .goes, argument-tested (n .word) (n .some) xs, t, ne-eqb (p + 1) p (λ i. omega arith), argument-of (n .word) xs, word-end (n .word), g)
 
-  arguments-ended : (room : ℕ) (ps : List Parameter) (p : ℕ) → nextWord s p ≡ go p → argumentsFrom s xs room ps p ≡ record { step = go (p + 1); parameters = ps }
+  arguments-ended : (room : ℕ) (ps : List Parameter) (p : ℕ) → nextWord s p ≡ go p
+      → argumentsFrom s xs room ps p ≡ record { step = go (p + 1); parameters = ps }
   arguments-ended zero ps p e = rw (e, eq-eqb p p refl)
   arguments-ended (suc room) ps p e = rw (e, eq-eqb p p refl)
 

@@ -70,7 +70,8 @@ line-ascii : (vs : List Bytes) (n : ℕ) (l : SymbolLine) → all (all isAscii) 
 unfolding soundSymbol
 line-ascii vs n l h a b =
     let kind = leb-true (l .kind) 255 (simp and-eq-true-iff at b .0 .0 .1) in
-    let parameters : all (all isAscii) (map (parameterWord vs) (l .parameters)) ≡ true = all-map _ _ (l .parameters) ∙ all-of _ (l .parameters) λ x _. parameter-ascii vs h x in
+    let parameters : all (all isAscii) (map (parameterWord vs) (l .parameters)) ≡ true =
+    all-map _ _ (l .parameters) ∙ all-of _ (l .parameters) λ x _. parameter-ascii vs h x in
     let words = spaced-ascii (lineWords vs l) (rw (name-ascii (l .name) a, decimal-ascii (l .kind) kind, parameters)) in
     all-append isAscii (spaced (lineWords vs l)) (lf ∷ []) ∙ rw words
 

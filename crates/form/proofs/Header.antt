@@ -67,7 +67,8 @@ linesBy t v others =
     (record { step = v .step; table = noTable }) in
     cond t lines (record { step = fail 2 0; table = noTable })
 
-lines-by : (s : Bytes) → linesOf s ≡ linesBy (sameWord (part s 0 (wordEnd s 0)) varsWord) (variablesFrom s variableLimit [] (wordEnd s 0)) (linesFrom s symbolLimit)
+lines-by : (s : Bytes)
+    → linesOf s ≡ linesBy (sameWord (part s 0 (wordEnd s 0)) varsWord) (variablesFrom s variableLimit [] (wordEnd s 0)) (linesFrom s symbolLimit)
 unfolding linesOf linesBy
 lines-by s = refl
 
@@ -119,7 +120,8 @@ module _ (s : Bytes) (d : Declarations) (h : Header s d) where
   unfolding others
   other-lines = ap (drop (length (varsLine (d .variables)))) header-text ∙ drop-append-seam (varsLine (d .variables)) others
 
-pub header-read : (s : Bytes) (d : Declarations) → Header s d → linesOf s ≡ record { step = go (length (header d) + length matchWord); table = declaredTable d }
+pub header-read : (s : Bytes) (d : Declarations) → Header s d
+    → linesOf s ≡ record { step = go (length (header d) + length matchWord); table = declaredTable d }
 unfolding header first-line varsTable
 header-read s d h =
     let vs = d .variables in
@@ -191,7 +193,8 @@ header-course s = by (word-here s 0)
             vars rest i (variables-course s 4 [] [] 4 refl refl (word-inside i (omega arith)))
         first false e =
             let i : linesOf s ≡ record { step = fail 2 0; table = noTable } = lines-by s
-            ∙ ap (λ b. linesBy b (variablesFrom s variableLimit [] (wordEnd s 0)) (linesFrom s symbolLimit)) (ap (λ u. sameWord u varsWord) (word-part h) ∙ e) in
+            ∙ ap (λ b. linesBy b (variablesFrom s variableLimit [] (wordEnd s 0)) (linesFrom s symbolLimit))
+            (ap (λ u. sameWord u varsWord) (word-part h) ∙ e) in
             faulty (ap (λ r. eqb (r .step .fault) 0) i) (rw (ap (λ r. r .step .place) i) (omega arith))
 
 pub header-found : (s : Bytes) → linesOf s .step .fault ≡ 0 → (d : Declarations) × Header s d

@@ -55,7 +55,8 @@ sound-split n y h =
     let c = and-true-split (leb 1 (y .kind)) (leb (y .kind) 255) (b .0) in
     (leb-true 1 (y .kind) (c .0), leb-true (y .kind) 255 (c .1), leb-true (length (y .parameters)) 4 (b .1), a .1)
 
-sound-of : (n : ℕ) (y : Symbol) → 1 ≤ y .kind → y .kind ≤ 255 → length (y .parameters) ≤ 4 → all (soundParameter n) (y .parameters) ≡ true → soundSymbol n y ≡ true
+sound-of : (n : ℕ) (y : Symbol) → 1 ≤ y .kind → y .kind ≤ 255 → length (y .parameters) ≤ 4 → all (soundParameter n) (y .parameters) ≡ true
+    → soundSymbol n y ≡ true
 unfolding soundSymbol
 sound-of n y h k l a = rw (le-leb 1 (y .kind) h, le-leb (y .kind) 255 k, le-leb (length (y .parameters)) 4 l, a)
 
@@ -63,7 +64,8 @@ module _ (s : Bytes) (xs : List Span) (vs : List Bytes) (g : map (bytesAt s) xs 
   -- past KIND
   kind-next : (x : Span) (p : ℕ) (w rest : Bytes) → Next s p w rest → (r : Arguments) → argumentsFrom s xs 4 [] (p + 1 + length w) ≡ r
       → kindFrom s xs x p ≡ cond (eqb (kindIn w) 0) (noSymbolRead (fail 2 (p + 1)))
-      (cond (eqb (r .step .fault) 0) (record { step = r .step; name = x; symbol = record { kind = kindIn w; parameters = r .parameters } }) (noSymbolRead (r .step)))
+      (cond (eqb (r .step .fault) 0) (record { step = r .step; name = x; symbol = record { kind = kindIn w; parameters = r .parameters } })
+      (noSymbolRead (r .step)))
   unfolding kindFrom
   kind-next x p w rest n r e = rw (want-next n, kind-of (n .word) (n .some), word-end (n .word), e)
 

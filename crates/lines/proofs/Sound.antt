@@ -31,7 +31,8 @@ argument-sound s xs p e =
     by (sameWord (part s p e) ignoredWord) (eqb (nameFault s p e) 0) (ltb (indexOf s xs (part s p e)) (length xs)) refl refl
   where
     by : (a b c : Bool) → eqb (nameFault s p e) 0 ≡ b → ltb (indexOf s xs (part s p e)) (length xs) ≡ c
-        → eqb (cond a 0 (cond b (cond c 0 5) (nameFault s p e))) 0 ≡ true → soundParameter (length xs) (cond a ignored (names (indexOf s xs (part s p e)))) ≡ true
+        → eqb (cond a 0 (cond b (cond c 0 5) (nameFault s p e))) 0 ≡ true
+        → soundParameter (length xs) (cond a ignored (names (indexOf s xs (part s p e)))) ≡ true
     by true b c i j h = refl
     by false true true i j h = j
     by false true false i j h = absurd (false≢true h)

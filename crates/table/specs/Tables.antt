@@ -33,7 +33,11 @@ parameterOf (Events.Parameter.names v) = record { tag = 1; number = v }
 
 unfoldable pub symbolOf : Events.Symbol → Symbol
 symbolOf y =
-    record { kind = y .kind; count = length (y .parameters); parameters = pad parameterLimit (parameterOf Events.Parameter.ignored) (map parameterOf (y .parameters)) }
+    record {
+      kind = y .kind;
+      count = length (y .parameters);
+      parameters = pad parameterLimit (parameterOf Events.Parameter.ignored) (map parameterOf (y .parameters));
+    }
 
 abbrev pub nameOf : Span → Name
 nameOf x = record { start = x .start; size = x .size }
