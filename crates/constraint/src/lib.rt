@@ -132,7 +132,8 @@ pub fn constraint_of(y: Symbol, e: Event) -> Constraint
 
 // The constraints of the first n symbols of a table.
 pub fn constraints(table: [Symbol; SYMBOLS], n: usize, e: Event) -> Constraints
-    requires { ⌜ (n ≤ symbolLimit) × (e .count ≤ argumentLimit) × (all (λ y. leb (y .count) parameterLimit && all (soundPlace variableLimit) (viewSymbol y .places)) (take n table) ≡ true) ⌝ }
+    requires { ⌜ (n ≤ symbolLimit) × (e .count ≤ argumentLimit)
+        × (all (λ y. leb (y .count) parameterLimit && all (soundPlace variableLimit) (viewSymbol y .places)) (take n table) ≡ true) ⌝ }
     ensures { λ r. ⌜ (map viewConstraint (take n r) ≡ map (λ y. Events.constraintOf (viewSymbol y) (viewEvent e)) (take n table))
         × ((i : ℕ) → i < n → Ready (getD r i noConstraint)) ⌝ }
 {

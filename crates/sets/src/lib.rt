@@ -174,7 +174,8 @@ fn shift(words: &mut Words, n: usize, k: usize)
 // d among the first n, in its place: how many there are then, or NO_ROOM for one more.
 pub fn insert(words: &mut Words, n: usize, d: Disjunct) -> usize
     requires { ⌜ (n ≤ heldLimit) × (ascending compareDisjuncts (take n (disjunctsIn (now words))) ≡ true) ⌝ }
-    ensures { λ r. ⌜ grownIn r (now (words .exit)) ≡ within heldLimit (insert compareDisjuncts (viewDisjunct d) (take n (disjunctsIn (now (words .entry))))) ⌝ }
+    ensures { λ r. ⌜ grownIn r (now (words .exit)) ≡ within heldLimit
+        (insert compareDisjuncts (viewDisjunct d) (take n (disjunctsIn (now (words .entry))))) ⌝ }
 {
     let p = place_of(words, n, d);
     if p.found {
