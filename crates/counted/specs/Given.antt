@@ -1,5 +1,5 @@
 -- All that an event call hands back but the tally, which is lent.
-use Rattle.watch.specs.declared.Taken.{Taken}
+use Rattle.calls.specs.declared.Taken.{Taken}
 use Rattle.counted.specs.declared.Given.{Given}
 
 abbrev pub givenOf : Taken → Given

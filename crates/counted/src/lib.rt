@@ -1,16 +1,18 @@
 // The event call with the tally lent: "is lent to each call that counts and changed there". Over the by-value call of the crate watch.
 use book::Book;
+use calls::EventAnswer;
+use calls::Taken;
 use state::State;
 use tally::Tally;
-use watch::Answer;
-use watch::Taken;
 ghost use mathlib.Core.Path.{_≡_};
-ghost use Rattle.watch.specs.Calls.{taken, bufferAfter};
+ghost use mathlib.Core.Bool.{true};
+ghost use Rattle.form.specs.Text.{isBytes};
+ghost use Rattle.calls.specs.Calls.{taken, bufferAfter};
 ghost use Rattle.counted.specs.Given.{givenOf};
 
 // What an event call hands back beside the lent tally: the answer, the count of rows, and book and state as they are then.
 pub struct Given {
-    pub answer: Answer,
+    pub answer: EventAnswer,
     pub rows: usize,
     pub book: Book,
     pub state: State,
@@ -49,7 +51,8 @@ pub fn event(
 ) -> Given
     ensures { λ r. ⌜ (r ≡ givenOf (taken book state (now (bytes .entry)) (now (rows .entry)) place (now (tally .entry))))
         × (now (rows .exit) ≡ bufferAfter book state (now (bytes .entry)) (now (rows .entry)) place)
-        × (now (tally .exit) ≡ taken book state (now (bytes .entry)) (now (rows .entry)) place (now (tally .entry)) .tally) ⌝ }
+        × (now (tally .exit) ≡ taken book state (now (bytes .entry)) (now (rows .entry)) place (now (tally .entry)) .tally)
+        × (isBytes (now (bytes .entry)) ≡ true) ⌝ }
 {
     let t = watch::event(book, state, bytes, rows, place, *tally);
     *tally = tally_of(t);

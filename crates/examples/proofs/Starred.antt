@@ -1,13 +1,15 @@
 -- Theorem `starred`, about the whole table: every starred roast of document 01, its text read and its records taken, comes out as
 -- document 01 has it, by computation from the very definitions that the contracts of `read` and `event` cite (`computed`); and this
--- is what the meanings say: rows of the declarative meaning, numbers and places by the rules for texts.
-use mathlib.Core.Path.{_≡_, refl, sym, ap, _∙_}
+-- is what the meanings say: rows of the declarative meaning, answers by the stated rules, numbers and places by the rules for texts.
+use mathlib.Core.Path.{_≡_, refl, ap}
 use mathlib.Core.Bool.{Bool, true, _&&_}
-use mathlib.Core.List.{List, _∷_, map, List·Memᴰ, List·Memᴰ·head, List·Memᴰ·tail}
+use mathlib.Core.List.{List, [], _∷_, map, List·Memᴰ}
+use Prim.Native.Nat.{ℕ}
+use Prim.Native.String.{String}
 use Rattle.laws.specs.Bits.{bit, join, meet, single}
 use Rattle.laws.specs.Lists.{all}
 use Rattle.laws.specs.Parts.{front, splice, pad}
-use Rattle.laws.proofs.Lists.{all-at, and-true-split}
+use Rattle.laws.proofs.Lists.{all-at, and-true-split, map-at}
 use Rattle.meaning.specs.Events.{matches, constraintOf}
 use Rattle.meaning.specs.Book.{soundBook, soundSymbol}
 use Rattle.meaning.specs.Labels.{compareDisjuncts, skipBy, sources, stepSet, skipSet, newLabel, newHeld}
@@ -24,16 +26,19 @@ use Rattle.record.specs.Records.{wordAt, argumentsIn, isRecord, eventIn}
 use Rattle.slot.specs.Slots.{viewSlot, slotOf}
 use Rattle.disjunct.specs.Disjuncts.{viewDisjunct, disjunctOf}
 use Rattle.book.specs.Answers.{answerOf}
-use Rattle.book.specs.Books.{readingFor, bookFor, emptyBook, viewBook}
+use Rattle.book.specs.Books.{reading, readingFor, bookFor, emptyBook, viewBook}
 use Rattle.state.specs.States.{stateOf, heldFirst, viewState}
 use Rattle.sound.specs.Soundness.{symbolCounts, bookCounts, bookSound, slotCounts, stateCounts, stateSound}
 use Rattle.writer.specs.RowBytes.{wordBytes, rowBytes}
-use Rattle.watch.specs.Calls.{freshState, rowsBy, stateBy, leavesFreeBy, roomBy, unsound, outOfForm, tooMany, noRoom, noSpace, answerTo, taken, bufferAfter}
-use Rattle.watch.specs.Runs.{make, allBytes}
+use Rattle.calls.specs.Calls.{freshState, rowsBy, stateBy, leavesFreeBy, roomBy, unsound, outOfForm, tooMany, noRoom, noSpace, answerTo, taken, bufferAfter}
+use Rattle.calls.specs.Answers.{numberOf}
+use Rattle.calls.specs.Runs.{lentAt, make, allBytes}
 use Rattle.book.proofs.Bench as Bench
 use Rattle.fault.proofs.Refused.{refused}
-use Rattle.watch.proofs.Listed.{listed}
-use Rattle.examples.specs.Starred.{Entry, runs, reads, callOf, outcome, wanted, Meant, table}
+use Rattle.calls.proofs.Answered.{answered}
+use Rattle.calls.proofs.Checks.{first-failing}
+use Rattle.calls.proofs.Listed.{listed}
+use Rattle.examples.specs.Starred.{Line, Entry, runs, late, reads, Back, buffer, callOf, idle, outcome, wanted, Meant, table}
 
 pub computed : map outcome table ≡ map wanted table
 unfolding bit join meet single front splice pad matches constraintOf soundBook soundSymbol compareDisjuncts skipBy sources stepSet skipSet newLabel
@@ -47,22 +52,31 @@ computed = refl
 -- the text and the records of an entry are bytes
 abbrev inBytes : Entry → Bool
 inBytes (runs t ls) = isBytes (ascii t) && allBytes (map callOf ls)
+inBytes (late t k l) = true
 inBytes (reads t n p) = isBytes (ascii t)
 
 bytes : all inBytes table ≡ true
 unfolding table pad
 bytes = refl
 
--- two functions that give the same list agree at its elements
-same-at : {A B : Type 0} (f g : A → B) {x : A} {l : List A} → map f l ≡ map g l → List·Memᴰ x l → f x ≡ g x
-same-at f g {l = y ∷ l} h (List·Memᴰ·head e) = let k : f y ≡ g y = cc in ap f e ∙ k ∙ ap g (sym e)
-same-at f g {l = y ∷ l} h (List·Memᴰ·tail m) = let k : map f l ≡ map g l = cc in same-at f g k m
+-- the number of the first line
+abbrev firstNumber : List Back → ℕ
+firstNumber [] = 0
+firstNumber (b ∷ bs) = b .number
+
+-- what an entry `late` says of the one call
+late-number : (t : String) (k : ℕ) (l : Line) → outcome (late t k l) ≡ wanted (late t k l)
+    → numberOf (taken (reading (ascii t) .book) (idle k) (l .bytes) buffer 0 (lentAt (callOf l) .tally) .answer) ≡ l .number
+unfolding make
+late-number t k l o = ap (λ x. firstNumber (x .lines)) o
 
 meant : (e : Entry) → List·Memᴰ e table → outcome e ≡ wanted e → Meant e
 meant (runs t ls) h o =
     let (d, r, f) = Bench.accepted (ascii t) .0 (ap (λ x. x .number) o) in
-    (d, r, f, listed (ascii t) d r f (map callOf ls) (and-true-split (isBytes (ascii t)) _ (all-at inBytes bytes h) .1))
+    let b = and-true-split (isBytes (ascii t)) _ (all-at inBytes bytes h) .1 in
+    (d, r, f, listed (ascii t) d r f (map callOf ls) b, answered (ascii t) d r f (map callOf ls) b)
+meant (late t k l) h o = rw (late-number t k l o) at (first-failing (reading (ascii t) .book) (idle k) (l .bytes) buffer 0 (lentAt (callOf l) .tally))
 meant (reads t n p) h o = rw (ap (λ x. x .number) o, ap (λ x. x .place) o) at (refused (ascii t) (all-at inBytes bytes h))
 
 pub starred : (e : Entry) → List·Memᴰ e table → (outcome e ≡ wanted e) × Meant e
-starred e h = let o = same-at outcome wanted computed h in (o, meant e h o)
+starred e h = let o = map-at outcome wanted computed h in (o, meant e h o)

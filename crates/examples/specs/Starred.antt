@@ -1,9 +1,9 @@
--- The table of the starred roasts of document 01, as bytes: texts with the records sent under them and the lines that come back, and
--- texts with the number and place that their reading gets. The theorems about the whole table are in ../proofs/Starred.antt.
+-- The table of the starred roasts of document 01 and a few of our own, as bytes: texts with the records sent under them and the lines that
+-- come back, and texts with the number and place that their reading gets. The theorems about the whole table are in ../proofs/Starred.antt.
 use mathlib.Core.List.{List, [], _∷_, _++_, map}
-use Prim.Native.Nat.{ℕ, suc, _-_}
+use Prim.Native.Nat.{ℕ, suc, _-_, _*_, _/_, _%_}
 use Prim.Native.String.{String}
-use lib.ListN.{length, replicate}
+use lib.ListN.{length, take, replicate}
 use Rattle.laws.specs.Lists.{gather}
 use Rattle.laws.specs.Parts.{pad}
 use Rattle.pattern.specs.Regex.{Regex}
@@ -12,14 +12,18 @@ use Rattle.form.specs.Form.{Form}
 use Rattle.fault.specs.Rules.{Rules}
 use Rattle.book.specs.Answers as Reading
 use Rattle.book.specs.Books.{reading}
-use Rattle.watch.specs.Answers.{numberOf}
-use Rattle.watch.specs.Runs.{Call, event, Made, runOf, acceptedIn, traceOf, Within, Delivered}
+use Rattle.state.specs.declared.State.{State}
+use Rattle.state.specs.States.{stateOf}
+use Rattle.writer.specs.RowBytes.{rowSize}
+use Rattle.calls.specs.Answers.{numberOf}
+use Rattle.calls.specs.Checks.{FirstFailing}
+use Rattle.calls.specs.Runs.{Call, event, Made, make, runOf, acceptedIn, traceOf, Within, Delivered, Judged}
 
--- a number below 256 in four bytes
+-- "32-bit little-endian": a number in four bytes, the lowest first
 abbrev word : ℕ → Bytes
-word x = x ∷ 0 ∷ 0 ∷ 0 ∷ []
+word x = x % 256 ∷ x / 256 % 256 ∷ x / 65536 % 256 ∷ x / 16777216 % 256 ∷ []
 
--- an event record, and the 24 bytes of a row: event number, values
+-- an event record, and the bytes of a row: event number, values
 abbrev pub sent : ℕ → List ℕ → Bytes
 sent kind args = kind ∷ length args ∷ 0 ∷ 0 ∷ pad 16 0 (gather word args)
 
@@ -38,6 +42,8 @@ line bytes number rows = record { bytes = bytes; number = number; rows = rows }
 pub data Entry : Type 0 where
   -- an accepted text and the records sent under it
   runs : String → List Line → Entry
+  -- an accepted text and one record sent after so many events, in the state that holds nothing: a run of so many events cannot be computed
+  late : String → (events : ℕ) → Line → Entry
   -- a text and the number and place of its reading
   reads : String → (number place : ℕ) → Entry
 
@@ -52,9 +58,17 @@ pub record Outcome : Type 0 where
   pub place : ℕ
   pub lines : List Back
 
--- a call that lends the record, 48 bytes for rows, from place 0, and an empty tally
+-- the row buffer of every call: room for two rows
+abbrev pub buffer : Bytes
+buffer = replicate (2 * rowSize) 255
+
+-- a call that lends the record, the buffer from place 0 on, and an empty tally
 abbrev pub callOf : Line → Call
-callOf l = event (record { bytes = l .bytes; buffer = replicate 48 255; place = 0; tally = record { accepted = 0; refused = 0; rows = 0 } })
+callOf l = event (record { bytes = l .bytes; buffer = buffer; place = 0; tally = record { accepted = 0; refused = 0; rows = 0 } })
+
+-- the state that holds nothing after so many events
+abbrev pub idle : ℕ → State
+idle events = stateOf (record { number = events; held = [] })
 
 abbrev pub backOf : Made → Back
 backOf m = record { number = numberOf (m .taken .answer); count = m .taken .rows; written = m .buffer }
@@ -64,6 +78,9 @@ abbrev pub outcome : Entry → Outcome
 outcome (runs t ls) =
     let r = reading (ascii t) in
     record { number = Reading.numberOf (r .answer); place = Reading.placeOf (r .answer); lines = map backOf (runOf (r .book) (map callOf ls)) }
+outcome (late t k l) =
+    let r = reading (ascii t) in
+    record { number = Reading.numberOf (r .answer); place = Reading.placeOf (r .answer); lines = backOf (make (r .book) (idle k) (callOf l)) ∷ [] }
 outcome (reads t n p) =
     let r = reading (ascii t) in record { number = Reading.numberOf (r .answer); place = Reading.placeOf (r .answer); lines = [] }
 
@@ -71,27 +88,31 @@ outcome (reads t n p) =
 abbrev pub wantedBack : Line → Back
 wantedBack l =
     let rows = gather (λ r. r) (l .rows) in
-    record { number = l .number; count = length (l .rows); written = rows ++ replicate (48 - length rows) 255 }
+    record { number = l .number; count = length (l .rows); written = rows ++ replicate (length buffer - length rows) 255 }
 
 abbrev pub wanted : Entry → Outcome
 wanted (runs t ls) = record { number = 0; place = 0; lines = map wantedBack ls }
+wanted (late t k l) = record { number = 0; place = 0; lines = wantedBack l ∷ [] }
 wanted (reads t n p) = record { number = n; place = p; lines = [] }
 
--- What the outcome means: under an accepted text, of the stated form, the rows of each accepted call are those of the declarative meaning;
--- the number and place of a reading are those of the rules for texts.
+-- What the outcome means: under an accepted text, of the stated form, the rows of each accepted call are those of the declarative meaning
+-- and the answer to each call is by the stated rules; a call in any state gets the number of its first failing check; the number and
+-- place of a reading are those of the rules for texts.
 abbrev pub Meant : Entry → Type 0
 Meant (runs t ls) =
     let ms = runOf (reading (ascii t) .book) (map callOf ls) in
     (d : Declarations) × (r : Regex) × Form (ascii t) d r
     × ((i : ℕ) (m : Made) → Within (acceptedIn ms) i m → Delivered (tracematchOf d r) (traceOf ms) (suc i) m)
+    × ((k : ℕ) (m : Made) → Within ms k m → Judged (tracematchOf d r) (traceOf (take k ms)) (m .lent) (numberOf (m .taken .answer)))
+Meant (late t k l) = FirstFailing (reading (ascii t) .book) (idle k) (l .bytes) buffer 0 (l .number)
 Meant (reads t n p) = Rules (ascii t) p n
 
 -- the records of B1 and B2, variables d and s
 abbrev load : ℕ → ℕ → Bytes
 load d s = sent 1 (d ∷ s ∷ [])
 
-abbrev drop : ℕ → Bytes
-drop d = sent 2 (d ∷ [])
+abbrev dropped : ℕ → Bytes
+dropped d = sent 2 (d ∷ [])
 
 abbrev clean : ℕ → Bytes
 clean d = sent 3 (d ∷ [])
@@ -109,16 +130,16 @@ unfoldable pub table : List Entry
 table =
     -- "Events load(1,7), load(2,8), drop(1), clean(2), drop(2), drop(1) print, whole"
     runs "vars d s\nsym load 1 d s\nsym drop 2 d\nsym clean 3 d\nmatch load drop+\n"
-    (line (load 1 7) 0 [] ∷ line (load 2 8) 0 [] ∷ line (drop 1) 0 (row 3 (1 ∷ 7 ∷ []) ∷ []) ∷ line (clean 2) 0 [] ∷ line (drop 2) 0 []
-    ∷ line (drop 1) 0 (row 6 (1 ∷ 7 ∷ []) ∷ []) ∷ [])
+    (line (load 1 7) 0 [] ∷ line (load 2 8) 0 [] ∷ line (dropped 1) 0 (row 3 (1 ∷ 7 ∷ []) ∷ []) ∷ line (clean 2) 0 [] ∷ line (dropped 2) 0 []
+    ∷ line (dropped 1) 0 (row 6 (1 ∷ 7 ∷ []) ∷ []) ∷ [])
     -- "B1, load(1,7), a kind-9 event, drop(1): row 1 7."
     ∷ runs "vars d s\nsym load 1 d s\nsym drop 2 d\nsym clean 3 d\nmatch load drop+\n"
-    (line (load 1 7) 0 [] ∷ line (sent 9 []) 0 [] ∷ line (drop 1) 0 (row 3 (1 ∷ 7 ∷ []) ∷ []) ∷ [])
+    (line (load 1 7) 0 [] ∷ line (sent 9 []) 0 [] ∷ line (dropped 1) 0 (row 3 (1 ∷ 7 ∷ []) ∷ []) ∷ [])
     -- "No variables, `sym a 1 _`, `sym b 1 _`, `match a b`: two kind-1 events of one argument give nothing, then the empty valuation."
     ∷ runs "vars\nsym a 1 _\nsym b 1 _\nmatch a b\n" (line (sent 1 (4 ∷ [])) 0 [] ∷ line (sent 1 (5 ∷ [])) 0 (row 2 [] ∷ []) ∷ [])
     -- "Pattern `load* load drop`, load(1,7) twice, drop(1): one row."
     ∷ runs "vars d s\nsym load 1 d s\nsym drop 2 d\nsym clean 3 d\nmatch load* load drop\n"
-    (line (load 1 7) 0 [] ∷ line (load 1 7) 0 [] ∷ line (drop 1) 0 (row 3 (1 ∷ 7 ∷ []) ∷ []) ∷ [])
+    (line (load 1 7) 0 [] ∷ line (load 1 7) 0 [] ∷ line (dropped 1) 0 (row 3 (1 ∷ 7 ∷ []) ∷ []) ∷ [])
     -- "open(1), fill(1,7), seal(1,7), seal(1,8): only the last gives a row, 1 8."
     ∷ runs "vars d s\nsym open 5 d\nsym fill 1 d s\nsym seal 6 d s\nmatch open seal\n"
     (line (opened 1) 0 [] ∷ line (fill 1 7) 0 [] ∷ line (seal 1 7) 0 [] ∷ line (seal 1 8) 0 (row 4 (1 ∷ 8 ∷ []) ∷ []) ∷ [])
@@ -126,6 +147,20 @@ table =
     ∷ runs "vars d s\nsym open 5 d\nsym fill 1 d s\nsym seal 6 d s\nmatch open seal\n"
     (line (opened 1) 0 [] ∷ line (fill 1 1) 0 [] ∷ line (fill 1 2) 0 [] ∷ line (fill 1 3) 0 [] ∷ line (fill 1 4) 0 [] ∷ line (fill 1 5) 0 []
     ∷ line (fill 1 6) 0 [] ∷ line (fill 1 7) 12 [] ∷ line (seal 1 6) 0 [] ∷ line (seal 1 9) 12 [] ∷ [])
+    -- ours: `?`, `|` and a group; the words load clean drop, load drop and load drop drop
+    ∷ runs "vars d\nsym load 1 d\nsym drop 2 d\nsym clean 3 d\nmatch load (clean | drop?) drop\n"
+    (line (sent 1 (1 ∷ [])) 0 [] ∷ line (sent 3 (1 ∷ [])) 0 [] ∷ line (sent 2 (1 ∷ [])) 0 (row 3 (1 ∷ []) ∷ []) ∷ line (sent 1 (1 ∷ [])) 0 []
+    ∷ line (sent 2 (1 ∷ [])) 0 (row 5 (1 ∷ []) ∷ []) ∷ line (sent 2 (1 ∷ [])) 0 (row 6 (1 ∷ []) ∷ []) ∷ line (sent 2 (1 ∷ [])) 0 [] ∷ [])
+    -- ours: one variable at two places of a symbol; only equal arguments concern it
+    ∷ runs "vars d\nsym a 1 d d\nmatch a\n"
+    (line (sent 1 (5 ∷ 5 ∷ [])) 0 (row 1 (5 ∷ []) ∷ []) ∷ line (sent 1 (5 ∷ 6 ∷ [])) 0 [] ∷ line (sent 1 (0 ∷ 0 ∷ [])) 0 (row 3 (0 ∷ []) ∷ []) ∷ [])
+    -- ours: arguments with more than one byte in use; the rows ascend by the first differing value, 1 before 256
+    ∷ runs "vars d s\nsym load 1 d s\nsym stop 9\nmatch load stop\n"
+    (line (load 256 3) 0 [] ∷ line (load 1 67305985) 0 [] ∷ line (sent 9 []) 0 (row 3 (1 ∷ 67305985 ∷ []) ∷ row 3 (256 ∷ 3 ∷ []) ∷ []) ∷ [])
+    -- ours: a row number with three bytes in use, and the last event that is taken
+    ∷ late "vars d s\nsym load 1 d s\nmatch load\n" 66050 (line (load 4294967295 67305985) 0 (row 66051 (4294967295 ∷ 67305985 ∷ []) ∷ []))
+    ∷ late "vars d s\nsym load 1 d s\nmatch load\n" 999999 (line (load 1 7) 0 (row 1000000 (1 ∷ 7 ∷ []) ∷ []))
+    ∷ late "vars d s\nsym load 1 d s\nmatch load\n" 1000000 (line (load 1 7) 11 [])
     -- "`vars d`, `sym a 1 d`: `match a*` is 7 at 23; `match b` 5 at 23; `match (a` 6 at 25; 17 parentheses 3 at 39, 16 accepted."
     ∷ reads "vars d\nsym a 1 d\nmatch a*\n" 7 23
     ∷ reads "vars d\nsym a 1 d\nmatch b\n" 5 23

@@ -6,6 +6,8 @@ use mathlib.Core.List.{List}
 use Prim.Native.Nat.{ℕ, suc, _+_, _-_, _≤_, _<_}
 use lib.Dec.{eqb}
 use lib.ListN.{length}
+use Rattle.pattern.specs.Positions.{occurrenceLimit}
+use Rattle.form.specs.Limits.{nameLimit, openLimit}
 use Rattle.form.specs.Text.{Bytes, lf, isLower, Span}
 use Rattle.form.specs.Phrase.{opening, closing, bar}
 use Rattle.form.specs.Scan.{at, pastEnd, part, spacesEnd, nameEnd}
@@ -17,10 +19,10 @@ module _ (s : Bytes) (symbols : List Span) (start : ℕ) where
   pub data PatternPrefix : (p o : ℕ) (e : Bool) (k : ℕ) → Type 0 where
     begin : PatternPrefix start 0 false 0
     name : (p o : ℕ) (e : Bool) (k : ℕ) → PatternPrefix p o e k → isLower (at s (spacesEnd s p)) ≡ true
-        → nameEnd s (spacesEnd s p) - spacesEnd s p ≤ 12 → k < 31
+        → nameEnd s (spacesEnd s p) - spacesEnd s p ≤ nameLimit → k < occurrenceLimit
         → indexOf s symbols (part s (spacesEnd s p) (nameEnd s (spacesEnd s p))) < length symbols
         → PatternPrefix (nameEnd s (spacesEnd s p)) o true (suc k)
-    opened : (p o : ℕ) (e : Bool) (k : ℕ) → PatternPrefix p o e k → at s (spacesEnd s p) ≡ opening → o < 16 → PatternPrefix (spacesEnd s p + 1) (suc o) false k
+    opened : (p o : ℕ) (e : Bool) (k : ℕ) → PatternPrefix p o e k → at s (spacesEnd s p) ≡ opening → o < openLimit → PatternPrefix (spacesEnd s p + 1) (suc o) false k
     closed : (p o k : ℕ) → PatternPrefix p (suc o) true k → at s (spacesEnd s p) ≡ closing → PatternPrefix (spacesEnd s p + 1) o true k
     either : (p o k : ℕ) → PatternPrefix p o true k → at s (spacesEnd s p) ≡ bar → PatternPrefix (spacesEnd s p + 1) o false k
     postfix : (p o k : ℕ) → PatternPrefix p o true k → isPostfix (at s (spacesEnd s p)) ≡ true → PatternPrefix (spacesEnd s p + 1) o true k
@@ -31,11 +33,11 @@ module _ (s : Bytes) (symbols : List Span) (start : ℕ) where
 
   -- the token behind p is the fault n
   pub data PatternStop (p o : ℕ) (e : Bool) (k : ℕ) : ℕ → Type 0 where
-    long : isLower (at s (spacesEnd s p)) ≡ true → 12 < nameEnd s (spacesEnd s p) - spacesEnd s p → PatternStop p o e k 3
-    many : isLower (at s (spacesEnd s p)) ≡ true → 31 ≤ k → PatternStop p o e k 3
-    unknown : isLower (at s (spacesEnd s p)) ≡ true → nameEnd s (spacesEnd s p) - spacesEnd s p ≤ 12 → k < 31
+    long : isLower (at s (spacesEnd s p)) ≡ true → nameLimit < nameEnd s (spacesEnd s p) - spacesEnd s p → PatternStop p o e k 3
+    many : isLower (at s (spacesEnd s p)) ≡ true → occurrenceLimit ≤ k → PatternStop p o e k 3
+    unknown : isLower (at s (spacesEnd s p)) ≡ true → nameEnd s (spacesEnd s p) - spacesEnd s p ≤ nameLimit → k < occurrenceLimit
         → length symbols ≤ indexOf s symbols (part s (spacesEnd s p) (nameEnd s (spacesEnd s p))) → PatternStop p o e k 5
-    deep : at s (spacesEnd s p) ≡ opening → o ≡ 16 → PatternStop p o e k 3
+    deep : at s (spacesEnd s p) ≡ opening → o ≡ openLimit → PatternStop p o e k 3
     unfit : {n : ℕ} → isLower (at s (spacesEnd s p)) ≡ false → (at s (spacesEnd s p) ≡ opening → ⊥) → Blocked o e (at s (spacesEnd s p))
         → n ≡ cond (eqb (at s (spacesEnd s p)) pastEnd) 2 6 → PatternStop p o e k n
 

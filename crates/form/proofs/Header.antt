@@ -12,6 +12,7 @@ use lib.Seq.{drop-append-seam}
 use Rattle.laws.specs.Lists.{all, gather}
 use Rattle.laws.proofs.Lists.{and-true-split, all-append}
 use Rattle.meaning.specs.Book.{soundSymbol}
+use Rattle.form.specs.Limits.{variableLimit, symbolLimit}
 use Rattle.form.specs.Text.{Bytes, space, lf, isName, varsWord, symWord, matchWord, decimal, placeWord, spaced, varsLine, symLine}
 use Rattle.form.specs.Text.{SymbolLine, Declarations, header, symbolOf, variableSpans, symbolSpans}
 use Rattle.form.specs.Form.{sameWord, distinct, allNames, symbolNames}
@@ -31,9 +32,9 @@ pub record Header (s : Bytes) (d : Declarations) : Type 0 where
   pub stops : run isWordByte rest ≡ 0
   pub named : all isName (allNames d) ≡ true
   pub distinct : distinct (allNames d) ≡ true
-  pub fewVariables : length (d .variables) ≤ 4
+  pub fewVariables : length (d .variables) ≤ variableLimit
   pub someSymbols : 1 ≤ length (d .symbols)
-  pub fewSymbols : length (d .symbols) ≤ 16
+  pub fewSymbols : length (d .symbols) ≤ symbolLimit
   pub symbols : all (λ l. soundSymbol (length (d .variables)) (symbolOf l)) (d .symbols) ≡ true
 
 -- the places of names that are written one behind the other hold them
@@ -43,17 +44,17 @@ variable-bytes s p (w ∷ ws) rest e =
     let h : drop (p + 1) s ≡ w ++ (spaced ws ++ rest) = behind s p (space ∷ []) (w ++ (spaced ws ++ rest)) (e ∙ spaced-first w ws rest) in
     ap₂ _∷_ (part-first s (p + 1) w (spaced ws ++ rest) h) (variable-bytes s (p + 1 + length w) ws rest (behind s (p + 1) w (spaced ws ++ rest) h))
 
-symbol-places : (s : Bytes) (p : ℕ) (vs : List Bytes) (ls : List SymbolLine) (rest : Bytes) → drop p s ≡ gather (symLine vs) ls ++ rest
+symbols-placed : (s : Bytes) (p : ℕ) (vs : List Bytes) (ls : List SymbolLine) (rest : Bytes) → drop p s ≡ gather (symLine vs) ls ++ rest
     → map (bytesAt s) (symbolSpans p vs ls) ≡ map (λ l. l .name) ls
-symbol-places s p vs [] rest e = refl
-symbol-places s p vs (l ∷ ls) rest e =
+symbols-placed s p vs [] rest e = refl
+symbols-placed s p vs (l ∷ ls) rest e =
     let tail = gather (symLine vs) ls ++ rest in
     let h : drop p s ≡ symLine vs l ++ tail = e ∙ append-assoc (symLine vs l) (gather (symLine vs) ls) rest in
     let ws = decimal (l .kind) ∷ map (placeWord vs) (l .places) in
     let k : symLine vs l ++ tail ≡ symWord ++ (space ∷ (l .name ++ (spaced ws ++ (lf ∷ tail)))) =
     line-text vs l tail ∙ ap (λ r. symWord ++ r) (spaced-first (l .name) ws (lf ∷ tail)) in
     ap₂ _∷_ (part-first s (p + 4) (l .name) _ (behind s p (symWord ++ (space ∷ [])) (l .name ++ (spaced ws ++ (lf ∷ tail))) (h ∙ k)))
-    (symbol-places s (p + length (symLine vs l)) vs ls rest (behind s p (symLine vs l) tail h))
+    (symbols-placed s (p + length (symLine vs l)) vs ls rest (behind s p (symLine vs l) tail h))
 
 -- the first line
 vars-text : (vs : List Bytes) (rest : Bytes) → varsLine vs ++ rest ≡ varsWord ++ (spaced vs ++ (lf ∷ rest))
@@ -66,7 +67,7 @@ linesBy t v others =
     (record { step = v .step; table = noTable }) in
     cond t lines (record { step = fail 2 0; table = noTable })
 
-lines-by : (s : Bytes) → linesOf s ≡ linesBy (sameWord (part s 0 (wordEnd s 0)) varsWord) (variablesFrom s 4 [] (wordEnd s 0)) (linesFrom s 16)
+lines-by : (s : Bytes) → linesOf s ≡ linesBy (sameWord (part s 0 (wordEnd s 0)) varsWord) (variablesFrom s variableLimit [] (wordEnd s 0)) (linesFrom s symbolLimit)
 unfolding linesOf linesBy
 lines-by s = refl
 
@@ -75,15 +76,15 @@ varsTable : List Bytes → Table
 varsTable vs = record { variables = variableSpans 5 vs; symbols = []; table = [] }
 
 lines-of : (s rest : Bytes) → Word s 0 varsWord rest → (v : VariablesRead s 4 [] 4)
-    → linesOf s ≡ linesFrom s 16 (varsTable (v .names)) (length (varsLine (v .names)))
+    → linesOf s ≡ linesFrom s symbolLimit (varsTable (v .names)) (length (varsLine (v .names)))
 unfolding linesBy varsTable
 lines-of s rest w v =
     let e : 4 + length (spaced (v .names)) + 1 ≡ length (varsLine (v .names)) = omega (arith, length-append (spaced (v .names)) (lf ∷ [])) in
     lines-by s
-    ∙ ap₂ (λ t r. linesBy t r (linesFrom s 16)) (ap (λ u. sameWord u varsWord) (word-part w))
-    (ap (variablesFrom s 4 []) (word-end w)
+    ∙ ap₂ (λ t r. linesBy t r (linesFrom s symbolLimit)) (ap (λ u. sameWord u varsWord) (word-part w))
+    (ap (variablesFrom s variableLimit []) (word-end w)
     ∙ variables-read s 4 [] [] 4 (v .names) (v .rest) refl (v .text) (v .named) (v .distinct) (v .few))
-    ∙ ap (linesFrom s 16 (varsTable (v .names))) e
+    ∙ ap (linesFrom s symbolLimit (varsTable (v .names))) e
 
 -- the text of a header, line by line
 module _ (s : Bytes) (d : Declarations) (h : Header s d) where
@@ -118,7 +119,7 @@ module _ (s : Bytes) (d : Declarations) (h : Header s d) where
   unfolding others
   other-lines = ap (drop (length (varsLine (d .variables)))) header-text ∙ drop-append-seam (varsLine (d .variables)) others
 
-pub header-read : (s : Bytes) (d : Declarations) → Header s d → linesOf s ≡ record { step = go (length (header d) + 5); table = declaredTable d }
+pub header-read : (s : Bytes) (d : Declarations) → Header s d → linesOf s ≡ record { step = go (length (header d) + length matchWord); table = declaredTable d }
 unfolding header first-line varsTable
 header-read s d h =
     let vs = d .variables in
@@ -172,13 +173,13 @@ header-course : (s : Bytes) → Outcome s (linesOf s .step) ((d : Declarations) 
 unfolding linesBy
 header-course s = by (word-here s 0)
   where
-    vars : (rest : Bytes) → Word s 0 varsWord rest → Outcome s (variablesFrom s 4 [] 4 .step) (VariablesRead s 4 [] 4)
+    vars : (rest : Bytes) → Word s 0 varsWord rest → Outcome s (variablesFrom s variableLimit [] 4 .step) (VariablesRead s 4 [] 4)
         → Outcome s (linesOf s .step) ((d : Declarations) × Header s d)
     vars rest w (fine v) = found-course s rest w v
     vars rest w (faulty h l) =
-        let e : linesOf s .step ≡ variablesFrom s 4 [] 4 .step = ap (λ r. r .step) (lines-by s)
-        ∙ ap₂ (λ u q. linesBy (sameWord u varsWord) (variablesFrom s 4 [] q) (linesFrom s 16) .step) (word-part w) (word-end w)
-        ∙ by-faulty (variablesFrom s 4 [] 4) (linesFrom s 16) h in
+        let e : linesOf s .step ≡ variablesFrom s variableLimit [] 4 .step = ap (λ r. r .step) (lines-by s)
+        ∙ ap₂ (λ u q. linesBy (sameWord u varsWord) (variablesFrom s variableLimit [] q) (linesFrom s symbolLimit) .step) (word-part w) (word-end w)
+        ∙ by-faulty (variablesFrom s variableLimit [] 4) (linesFrom s symbolLimit) h in
         faulty (rw e h) (rw e l)
 
     by : (w : Bytes) × (rest : Bytes) × Word s 0 w rest → Outcome s (linesOf s .step) ((d : Declarations) × Header s d)
@@ -190,7 +191,7 @@ header-course s = by (word-here s 0)
             vars rest i (variables-course s 4 [] [] 4 refl refl (word-inside i (omega arith)))
         first false e =
             let i : linesOf s ≡ record { step = fail 2 0; table = noTable } = lines-by s
-            ∙ ap (λ b. linesBy b (variablesFrom s 4 [] (wordEnd s 0)) (linesFrom s 16)) (ap (λ u. sameWord u varsWord) (word-part h) ∙ e) in
+            ∙ ap (λ b. linesBy b (variablesFrom s variableLimit [] (wordEnd s 0)) (linesFrom s symbolLimit)) (ap (λ u. sameWord u varsWord) (word-part h) ∙ e) in
             faulty (ap (λ r. eqb (r .step .fault) 0) i) (rw (ap (λ r. r .step .place) i) (omega arith))
 
 pub header-found : (s : Bytes) → linesOf s .step .fault ≡ 0 → (d : Declarations) × Header s d
@@ -204,7 +205,7 @@ header-found s h = by (header-course s)
 pub header-names : (s : Bytes) (d : Declarations) → Header s d → (map (bytesAt s) (declaredTable d .variables) ≡ d .variables)
     × (map (bytesAt s) (declaredTable d .symbols) ≡ map (λ l. l .name) (d .symbols))
 header-names s d h =
-    (variables-placed s d h, symbol-places s (length (varsLine (d .variables))) (d .variables) (d .symbols) (matchWord ++ h .rest) (other-lines s d h))
+    (variables-placed s d h, symbols-placed s (length (varsLine (d .variables))) (d .variables) (d .symbols) (matchWord ++ h .rest) (other-lines s d h))
 
 -- a fault of the lines stands inside the text
 pub lines-place : (s : Bytes) → linesOf s .step .place ≤ length s

@@ -101,7 +101,7 @@ module _ (s : Bytes) where
       }
 
   -- the first token stands behind the lines, `match`, a space and the spaces that follow
-  pub shape-first : (d : Declarations) (r : Regex) (f : Shape s d r) → firstOf s ≡ length (header d) + 6 + run isSpace (f .written)
+  pub shape-first : (d : Declarations) (r : Regex) (f : Shape s d r) → firstOf s ≡ length (header d) + (length matchWord + 1) + run isSpace (f .written)
   unfolding shape-header spacesEnd
   shape-first d r f =
       let h = shape-header d r f in

@@ -1,5 +1,5 @@
 -- The laws of the definitions in ../specs, a file for each; sets under a map (Maps); lists and sets that code keeps in arrays (Places),
--- and the turns of loops over such a set (Turns).
+-- and the turns of loops over such a set (Turns); what is known of lent bytes (Slices).
 pub mod Lists
 pub mod Bits
 pub mod Order
@@ -8,3 +8,4 @@ pub mod Parts
 pub mod Maps
 pub mod Places
 pub mod Turns
+pub mod Slices

@@ -173,6 +173,11 @@ module _ {A : Type 0} where
   all-of f [] h = refl
   all-of f (x ∷ l) h = ap₂ _&&_ (h x (List·Memᴰ·head refl)) (all-of f l (λ y m. h y (List·Memᴰ·tail m)))
 
+  -- every element passes where the one at each index does: what the logic knows of a lent slice
+  pub all-indexed : (f : A → Bool) (d : A) (l : List A) → ((i : ℕ) → f (getD l i d) ≡ true) → all f l ≡ true
+  all-indexed f d [] h = refl
+  all-indexed f d (x ∷ l) h = ap₂ _&&_ (h 0) (all-indexed f d l (λ i. h (suc i)))
+
   pub mem-keep : (f : A → Bool) (x : A) (l : List A) → List·Memᴰ x (keep f l) ↔ (List·Memᴰ x l × (f x ≡ true))
   mem-keep f x [] = (λ m. absurd (List·Memᴰ·not-nil m), λ p. p .0)
   mem-keep f x (y ∷ l) = go (f y) refl (mem-keep f x l)

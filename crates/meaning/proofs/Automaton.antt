@@ -18,8 +18,8 @@ use Rattle.pattern.specs.Regex.{In}
 use Rattle.pattern.specs.Positions.{size, symbols, ending, following, symbolAt, Has, Reach, start, next as onto}
 use Rattle.pattern.proofs.Masks.{Among, beginning-among, ending-among, following-among, symbolAt-list, symbols-length}
 use Rattle.pattern.proofs.Spell.{positions-left}
-use Rattle.meaning.specs.Events.{Place, ignored, names, Symbol, Event, Demand, never, demands, Valuation}
-use Rattle.meaning.specs.Events.{word32, wellFormed, isValuation, matches, demandsOf, consistent, constraintOf, agrees, satisfies, holds, concerns}
+use Rattle.meaning.specs.Events.{Place, ignored, names, Symbol, Event, Valuation}
+use Rattle.meaning.specs.Events.{word32, wellFormed, isValuation, matches, equalAll, holds, concerns}
 use Rattle.meaning.specs.Meaning.{Tracematch, noSymbol, concerning, stretch, Reading, nothing, next, Match}
 use Rattle.meaning.specs.Book.{Book, bookOf, Proper, binds, positions, beginsAt, endsAt, followsAt, symbolOf}
 
@@ -245,37 +245,23 @@ completed-match tm ok σ t e =
     let m = match-spoken tm ok σ (e ∷ t) in
     (λ h. (c .0 h .0, m .1 (c .0 h .1)), λ h. c .1 (h .0, m .0 (h .1)))
 
--- a symbol's constraint holds: the event matches, and every demand agrees
-holds-demands : (s : Symbol) (e : Event) (σ : Valuation) → holds s e σ ≡ true
-    → (matches s e ≡ true) × (all (agrees σ) (demandsOf (s .places) (e .args)) ≡ true)
-unfolding holds constraintOf
-holds-demands s e σ h = go (matches s e) (consistent ds) h
-  where
-    ds : List Demand
-    ds = demandsOf (s .places) (e .args)
-
-    go : (a b : Bool) → satisfies (cond (a && b) (demands ds) never) σ ≡ true → (a ≡ true) × (all (agrees σ) ds ≡ true)
-    go true true h = (refl, h)
-    go true false h = absurd (false≢true h)
-    go false b h = absurd (false≢true h)
-
 -- what a place binds is an argument
 bound-argument : (σ : Valuation) (v : ℕ) (ps : List Place) (xs : List ℕ) → length ps ≡ length xs → any (binds v) ps ≡ true
-    → all (agrees σ) (demandsOf ps xs) ≡ true → List·Memᴰ (getD σ v 0) xs
+    → equalAll σ ps xs ≡ true → List·Memᴰ (getD σ v 0) xs
 bound-argument σ v [] xs n b h = absurd (false≢true b)
 bound-argument σ v (p ∷ ps) [] n b h = absurd (omega arith)
 bound-argument σ v (ignored ∷ ps) (x ∷ xs) n b h = List·Memᴰ·tail (bound-argument σ v ps xs (omega arith) b h)
 bound-argument σ v (names u ∷ ps) (x ∷ xs) n b h =
-    let hs = and-true-split (eqb (getD σ u 0) x) (all (agrees σ) (demandsOf ps xs)) h in
+    let hs = and-true-split (eqb (getD σ u 0) x) (equalAll σ ps xs) h in
     ⊎-elim (λ e. List·Memᴰ·head (ap (λ i. getD σ i 0) (eqb-true v u e) ∙ eqb-true (getD σ u 0) x (hs .0)))
     (λ k. List·Memᴰ·tail (bound-argument σ v ps xs (omega arith) k (hs .1))) (or-true-split (eqb v u) (any (binds v) ps) b)
 
 -- so a variable that a symbol binds has an argument of each event on which the symbol holds
 holds-argument : (s : Symbol) (e : Event) (σ : Valuation) (v : ℕ) → holds s e σ ≡ true → any (binds v) (s .places) ≡ true
     → List·Memᴰ (getD σ v 0) (e .args)
-unfolding matches
+unfolding holds matches
 holds-argument s e σ v h b =
-    let hs = holds-demands s e σ h in
+    let hs = and-true-split (matches s e) (equalAll σ (s .places) (e .args)) h in
     let n = eqb-true (length (s .places)) (length (e .args)) (and-true-split (eqb (s .kind) (e .kind)) _ (hs .0) .1) in
     bound-argument σ v (s .places) (e .args) n b (hs .1)
 

@@ -1,8 +1,11 @@
 -- The theorems about the meaning: demand 2 is Listed, demand 3 is Crossed, the ground of "never gets 9" is Kept. Members
--- (what each set holds), NoRoom (when there is no room), Counts and ProperTest say what the definitions compute.
--- Below them: Orders (the comparisons), Fits (disjuncts read for one valuation), Step (step and skip sets so read), Stems
--- (where the disjuncts of a new state stem from), Automaton (the pattern's positions run for one valuation, against the
--- declarative meaning), Reduced (a row depends on the reduced trace alone), Bound (no row leaves a variable free).
+-- (what each set holds), NoRoom (when there is no room), Counts and ProperTest say what the definitions compute; Answers has what they
+-- give for the starred roasts and a few cases more. Below them: Holds (the matcher's constraint says what `holds` says), Orders (the
+-- comparisons), Fits (disjuncts read for one valuation), Step (step and skip sets so read), Stems (where the disjuncts of a new state
+-- stem from), Automaton (the pattern's positions run for one valuation, against the declarative meaning), Reduced (a row depends on the
+-- reduced trace alone), Bound (no row leaves a variable free).
+pub mod Answers
+pub mod Holds
 pub mod Orders
 pub mod Members
 pub mod Fits

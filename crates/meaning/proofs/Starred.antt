@@ -1,35 +1,22 @@
--- Theorem `starred`: every starred roast that is an event run comes out as document 01 has it, by computation; its
--- tracematch is proper and its events are well formed, so that by `listed` its rows are the declarative meaning
--- (`starred-listed`). `on-the-way`, `partial-held` and `mixed-held` are further cases about room and about what is held.
+-- The rows of the starred roasts that are event runs, as Answers computes them, are those of the declarative meaning (`starred-listed`):
+-- their tracematches are proper and their events well formed, so that `listed` applies.
 use mathlib.Core.Path.{_≡_, refl, sym, ap, ap₂, _∙_}
 use mathlib.Core.Bool.{Bool, true, false, cond, _&&_}
-use mathlib.Core.List.{List, [], _∷_, map, List·Memᴰ}
+use mathlib.Core.List.{List, [], _∷_, List·Memᴰ}
 use Prim.Native.Nat.{ℕ, suc, _<_}
 use lib.ListN.{length, getD}
-use Rattle.laws.specs.Bits.{bit, join, meet, single}
 use Rattle.laws.specs.Lists.{all}
 use Rattle.laws.proofs.Lists.{and-true-split, map-at}
-use Rattle.meaning.specs.Events.{Event, matches, constraintOf, wellFormed}
-use Rattle.meaning.specs.Book.{Book, bookOf, isProper, soundSymbol}
-use Rattle.meaning.specs.Labels.{Held, compareDisjuncts, skipBy, sources, stepSet, skipSet, newLabel, newHeld}
-use Rattle.meaning.specs.Room.{setRoom, room}
+use Rattle.meaning.specs.Events.{Event, wellFormed}
+use Rattle.meaning.specs.Book.{Book, bookOf}
+use Rattle.meaning.specs.Labels.{Held, newHeld}
+use Rattle.meaning.specs.Room.{room}
 use Rattle.meaning.specs.Rows.{rows}
-use Rattle.meaning.specs.Runs.{Call, traceOf, given, heldAfter, rowLists, Listed}
-use Rattle.meaning.specs.Starred.{Case, Answer, accepted, noRoom, answers, table, callsOf, rowsOf, onTheWay, partial, partialCalls, partialHeld}
-use Rattle.meaning.specs.Starred.{mixed, mixedCalls, mixedHeld}
+use Rattle.meaning.specs.Runs.{Call, traceOf, given, rowLists, Listed}
+use Rattle.meaning.specs.Starred.{Case, accepted, noRoom, answers, table, callsOf, rowsOf}
 use Rattle.meaning.proofs.ProperTest.{proper-test}
 use Rattle.meaning.proofs.Listed.{listed}
-
-abbrev outcome : Case → Bool × Bool × List Answer
-outcome c = (isProper (c .tracematch), all wellFormed (c .events), answers (bookOf (c .tracematch)) [] (c .events))
-
-abbrev wanted : Case → Bool × Bool × List Answer
-wanted c = (true, true, c .expected)
-
-pub starred : map outcome table ≡ map wanted table
-unfolding bit join meet single matches constraintOf wellFormed bookOf isProper soundSymbol compareDisjuncts skipBy sources stepSet skipSet newLabel
-    newHeld setRoom room rows table
-starred = refl
+use Rattle.meaning.proofs.Answers.{outcome, wanted, starred}
 
 -- the rows among the answers are those that the run of the calls gives
 answers-given : (b : Book) (held : List Held) (es : List Event) → rowsOf (answers b held es) ≡ given (newHeld b) (rows b) held (callsOf b held es)
@@ -65,16 +52,3 @@ starred-listed c m i h =
     sym (ap (λ o. rowsOf (o .2)) out) ∙ answers-given b [] (c .events) in
     rw rowsThere (listed (c .tracematch) (proper-test (c .tracematch) .0 (ap (λ o. o .0) out)) (callsOf b [] (c .events))
     (calls-all wellFormed b [] (c .events) (ap (λ o. o .1) out)) i h)
-
-pub on-the-way : outcome onTheWay ≡ wanted onTheWay
-unfolding bit join meet single matches constraintOf wellFormed bookOf isProper soundSymbol compareDisjuncts skipBy sources stepSet skipSet newLabel
-    newHeld setRoom room rows onTheWay
-on-the-way = refl
-
-pub partial-held : heldAfter partial partialCalls ≡ partialHeld
-unfolding bit join single matches constraintOf bookOf compareDisjuncts skipBy sources stepSet skipSet newLabel newHeld
-partial-held = refl
-
-pub mixed-held : heldAfter mixed mixedCalls ≡ mixedHeld
-unfolding bit join single matches constraintOf bookOf compareDisjuncts skipBy sources stepSet skipSet newLabel newHeld
-mixed-held = refl

@@ -16,6 +16,7 @@ use Rattle.meaning.specs.Meaning.{noSymbol}
 use Rattle.meaning.specs.Book.{Book, soundPlace, soundSymbol, positions, beginsAt, followsAt, goesOn, symbolOf}
 use Rattle.meaning.specs.Labels.{free, Disjunct, freeDisjunct, compareDisjuncts, meets, met, skipOne, skipBy, skipThrough}
 use Rattle.meaning.specs.Labels.{Held, heldAt, labelOf, sources, stepSet, skipSet, newLabel, newHeld}
+use Rattle.meaning.proofs.Holds.{holds-satisfies}
 use Rattle.meaning.proofs.Orders.{disjunct-order}
 use Rattle.meaning.proofs.Members.{skipBy-member, stepSet-member, newLabel-member, newHeld-member}
 use Rattle.meaning.proofs.Stems.{label-held, source-cases}
@@ -137,7 +138,7 @@ module _ (b : Book) (formed : all (soundSymbol (b .variables)) (b .symbols) ≡ 
 
     pub stepSet-fits : (q : ℕ) → any (fits σ) (stepSet b held e q)
         ≡ (holds (symbolOf b q) e σ && (beginsAt b q || any (λ h. followsAt b (h .position) q && fits σ (h .disjunct)) held))
-    unfolding stepSet holds
+    unfolding stepSet
     stepSet-fits q =
         let c : Constraint = constraintOf (symbolOf b q) e in
         let k : inRange (length σ) c ≡ true = rw width (numbered-inRange (b .variables) (b .symbols) (getD (b .occurrences) (q - 1) 0) e formed) in
@@ -145,16 +146,17 @@ module _ (b : Book) (formed : all (soundSymbol (b .variables)) (b .symbols) ≡ 
         any-setOf (fits σ) (map (λ D. met D c) l) ∙ any-map (fits σ) (λ D. met D c) l ∙ any-keep _ (λ D. meets D c) (sources b held q)
         ∙ any-agree _ (λ D. satisfies c σ && fits σ D) (sources b held q)
         (λ D m. met-fits σ D c (sources-long b held old-long q D m ∙ sym width) k ∙ and-comm (fits σ D) (satisfies c σ))
-        ∙ any-and (satisfies c σ) (fits σ) (sources b held q) ∙ ap (λ r. satisfies c σ && r) (sources-fits q)
+        ∙ any-and (satisfies c σ) (fits σ) (sources b held q) ∙ ap₂ _&&_ (sym (holds-satisfies (symbolOf b q) e σ)) (sources-fits q)
 
     pub skipSet-fits : (p : ℕ) → any (fits σ) (skipSet b held e p)
         ≡ (any (λ h. eqb (h .position) p && fits σ (h .disjunct)) held && not (concerns (b .symbols) e σ))
-    unfolding skipSet concerns holds
+    unfolding skipSet concerns
     skipSet-fits p =
         skipThrough-fits σ (map (λ s. constraintOf s e) (b .symbols)) (labelOf held p)
         (λ D m. label-long b held old-long p D m ∙ sym width) (rw width (symbols-inRange (b .variables) (b .symbols) e formed))
         ∙ ap₂ (λ r t. r && not t) (held-fits σ (λ h. eqb (h .position) p) held)
-        (any-map (λ c. satisfies c σ) (λ s. constraintOf s e) (b .symbols))
+        (any-map (λ c. satisfies c σ) (λ s. constraintOf s e) (b .symbols)
+        ∙ any-agree _ (λ s. holds s e σ) (b .symbols) (λ s m. sym (holds-satisfies s e σ)))
 
     newLabel-fits : (p : ℕ) → any (fits σ) (newLabel b held e p)
         ≡ (goesOn b p && (any (fits σ) (skipSet b held e p) || any (fits σ) (stepSet b held e p)))

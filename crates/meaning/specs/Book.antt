@@ -11,6 +11,7 @@ use Rattle.laws.specs.Bits.{bit, join, single}
 use Rattle.laws.specs.Lists.{any, all, numbers}
 use Rattle.pattern.specs.Regex.{In, nullable, boundBy}
 use Rattle.pattern.specs.Positions as Positions
+use Rattle.meaning.specs.Limits.{variableLimit, symbolLimit, kindLimit, parameterLimit}
 use Rattle.meaning.specs.Events.{Place, ignored, names, Symbol}
 use Rattle.meaning.specs.Meaning.{Tracematch, noSymbol}
 
@@ -99,18 +100,18 @@ soundPlace variables (names v) = ltb v variables
 -- a symbol with every number "in its declared range"
 unfoldable pub soundSymbol : ℕ → Symbol → Bool
 soundSymbol variables s =
-    leb 1 (s .kind) && leb (s .kind) 255 && leb (length (s .places)) 4 && all (soundPlace variables) (s .places)
+    leb 1 (s .kind) && leb (s .kind) kindLimit && leb (length (s .places)) parameterLimit && all (soundPlace variables) (s .places)
 
 -- What every accepted text declares: "0 to 4 variable names", "1 to 16 lines `sym NAME KIND ARGS`", declared names in the
 -- pattern, "At most 31 symbol occurrences", "No word of the pattern may be empty, and each word must contain, for each
 -- variable, a symbol that binds it."
 pub record Proper (tm : Tracematch) : Type 0 where
-  pub variables : tm .variables ≤ 4
+  pub variables : tm .variables ≤ variableLimit
   pub some : 1 ≤ length (tm .symbols)
-  pub few : length (tm .symbols) ≤ 16
+  pub few : length (tm .symbols) ≤ symbolLimit
   pub symbols : all (soundSymbol (tm .variables)) (tm .symbols) ≡ true
   pub declared : all (λ a. ltb a (length (tm .symbols))) (Positions.symbols (tm .pattern)) ≡ true
-  pub occurrences : Positions.size (tm .pattern) ≤ 31
+  pub occurrences : Positions.size (tm .pattern) ≤ Positions.occurrenceLimit
   pub nonempty : In (tm .pattern) [] → ⊥
   pub binding : (v : ℕ) → v < tm .variables → (w : List ℕ) → In (tm .pattern) w
       → any (λ a. any (binds v) (getD (tm .symbols) a noSymbol .places)) w ≡ true
@@ -118,10 +119,10 @@ pub record Proper (tm : Tracematch) : Type 0 where
 -- the same, computed: the flag of the empty word and the mask of bound variables decide what `Proper` says of words
 unfoldable pub isProper : Tracematch → Bool
 isProper tm =
-    leb (tm .variables) 4 && leb 1 (length (tm .symbols)) && leb (length (tm .symbols)) 16
+    leb (tm .variables) variableLimit && leb 1 (length (tm .symbols)) && leb (length (tm .symbols)) symbolLimit
     && all (soundSymbol (tm .variables)) (tm .symbols)
     && all (λ a. ltb a (length (tm .symbols))) (Positions.symbols (tm .pattern))
-    && leb (Positions.size (tm .pattern)) 31
+    && leb (Positions.size (tm .pattern)) Positions.occurrenceLimit
     && not (nullable (tm .pattern))
     && all (λ v. bit v (boundBy (λ a. boundIn (getD (tm .symbols) a noSymbol .places)) (tm .pattern))) (numbers 0 (tm .variables))
 
@@ -133,9 +134,9 @@ soundMask n m = ltb m (2 ^ suc n) && not (bit 0 m)
 unfoldable pub soundBook : Book → Bool
 soundBook b =
     let n = length (b .occurrences) in
-    leb (b .variables) 4 && leb 1 (length (b .symbols)) && leb (length (b .symbols)) 16
+    leb (b .variables) variableLimit && leb 1 (length (b .symbols)) && leb (length (b .symbols)) symbolLimit
     && all (soundSymbol (b .variables)) (b .symbols)
-    && leb 1 n && leb n 31
+    && leb 1 n && leb n Positions.occurrenceLimit
     && all (λ a. ltb a (length (b .symbols))) (b .occurrences)
     && soundMask n (b .begins) && soundMask n (b .ends)
     && eqb (length (b .follows)) n && all (soundMask n) (b .follows)

@@ -5,6 +5,7 @@ use Prim.Native.Nat.{ℕ, _^_}
 use lib.Dec.{eqb, leb, ltb}
 use lib.ListN.{length, getD}
 use Rattle.laws.specs.Lists.{any, all}
+use Rattle.meaning.specs.Limits.{kindLimit, argumentLimit}
 
 -- an argument place of a symbol: `_` ("that argument is ignored"), or a declared variable by its number from 0
 pub data Place : Type 0 where
@@ -27,7 +28,7 @@ word32 x = ltb x (2 ^ 32)
 
 -- "byte 0 kind (1 to 255); byte 1 argument count (0 to 4); … unsigned 32-bit … arguments"
 unfoldable pub wellFormed : Event → Bool
-wellFormed e = leb 1 (e .kind) && leb (e .kind) 255 && leb (length (e .args)) 4 && all word32 (e .args)
+wellFormed e = leb 1 (e .kind) && leb (e .kind) kindLimit && leb (length (e .args)) argumentLimit && all word32 (e .args)
 
 -- "variable equals argument"
 pub record Demand : Type 0 where
@@ -84,9 +85,22 @@ abbrev pub satisfies : Constraint → Valuation → Bool
 satisfies never σ = false
 satisfies (demands ds) σ = all (agrees σ) ds
 
--- whether the symbol's constraint on the event holds under the valuation
+-- "'variable equals argument' for each bound place", read for a valuation straight from the symbol and the event: no demand is
+-- gathered and none is compared with another. An ignored place asks nothing.
+abbrev pub equalAt : Valuation → Place → ℕ → Bool
+equalAt σ ignored x = true
+equalAt σ (names v) x = eqb (getD σ v 0) x
+
+-- the same at each place of a symbol
+abbrev pub equalAll : Valuation → List Place → List ℕ → Bool
+equalAll σ [] xs = true
+equalAll σ (p ∷ ps) [] = true
+equalAll σ (p ∷ ps) (x ∷ xs) = equalAt σ p x && equalAll σ ps xs
+
+-- The declarative meaning's own word for "the symbol's constraint on the event holds under the valuation": the symbol matches, and each
+-- bound place's variable equals its argument. That the matcher's constraint says the same is a law (../proofs/Holds.antt).
 unfoldable pub holds : Symbol → Event → Valuation → Bool
-holds s e σ = satisfies (constraintOf s e) σ
+holds s e σ = matches s e && equalAll σ (s .places) (e .args)
 
 -- "An event concerns a valuation if some symbol's constraint holds under it."
 unfoldable pub concerns : List Symbol → Event → Valuation → Bool

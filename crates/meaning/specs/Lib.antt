@@ -1,5 +1,6 @@
 -- What the watch means, on plain data. Read in this order: Events, Meaning (the declarative meaning), Book, Labels,
 -- Room, Rows and Sound (document 01's labels and room), Runs (what the theorems of demands 2 and 3 speak of), Starred.
+pub mod Limits
 pub mod Events
 pub mod Meaning
 pub mod Book

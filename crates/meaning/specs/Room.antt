@@ -45,8 +45,8 @@ skippedBy b held e p k = skipThrough (take k (map (λ s. constraintOf s e) (b .s
 
 -- one constructor for each of the four rules
 pub data Broken (b : Book) (held : List Held) (e : Event) : Type 0 where
-  stepSetOver : (q : ℕ) → List·Memᴰ q (positions b) → 128 < length (stepSet b held e q) → Broken b held e
-  skipSetOver : (p k : ℕ) → List·Memᴰ p (positions b) → 1 ≤ k → k ≤ length (b .symbols) → 128 < length (skippedBy b held e p k) → Broken b held e
+  stepSetOver : (q : ℕ) → List·Memᴰ q (positions b) → heldLimit < length (stepSet b held e q) → Broken b held e
+  skipSetOver : (p k : ℕ) → List·Memᴰ p (positions b) → 1 ≤ k → k ≤ length (b .symbols) → heldLimit < length (skippedBy b held e p k) → Broken b held e
   seventhExclusion : (p k : ℕ) → List·Memᴰ p (positions b) → 1 ≤ k → k ≤ length (b .symbols)
-      → (D : Disjunct) → List·Memᴰ D (skippedBy b held e p k) → (x : Entry) → List·Memᴰ x D → 7 ≤ length (exclusions x) → Broken b held e
-  allOver : 128 < length (newHeld b held e) → Broken b held e
+      → (D : Disjunct) → List·Memᴰ D (skippedBy b held e p k) → (x : Entry) → List·Memᴰ x D → exclusionLimit < length (exclusions x) → Broken b held e
+  allOver : heldLimit < length (newHeld b held e) → Broken b held e

@@ -51,8 +51,8 @@ b1 r = record { variables = 2; symbols = symbol 1 (d ∷ s ∷ []) ∷ symbol 2 
 abbrev load : ℕ → ℕ → Event
 load x y = event 1 (x ∷ y ∷ [])
 
-abbrev drop : ℕ → Event
-drop x = event 2 (x ∷ [])
+abbrev dropped : ℕ → Event
+dropped x = event 2 (x ∷ [])
 
 abbrev clean : ℕ → Event
 clean x = event 3 (x ∷ [])
@@ -82,7 +82,7 @@ unfoldable pub listing : Case
 listing =
     record {
       tracematch = b1 (cat (lit 0) (plus (lit 1)));
-      events = load 1 7 ∷ load 2 8 ∷ drop 1 ∷ clean 2 ∷ drop 2 ∷ drop 1 ∷ [];
+      events = load 1 7 ∷ load 2 8 ∷ dropped 1 ∷ clean 2 ∷ dropped 2 ∷ dropped 1 ∷ [];
       expected = none ∷ none ∷ row17 ∷ none ∷ none ∷ row17 ∷ [];
     }
 
@@ -91,7 +91,7 @@ unfoldable pub unknownKind : Case
 unknownKind =
     record {
       tracematch = b1 (cat (lit 0) (plus (lit 1)));
-      events = load 1 7 ∷ event 9 [] ∷ drop 1 ∷ [];
+      events = load 1 7 ∷ event 9 [] ∷ dropped 1 ∷ [];
       expected = none ∷ none ∷ row17 ∷ [];
     }
 
@@ -114,7 +114,7 @@ unfoldable pub oneRow : Case
 oneRow =
     record {
       tracematch = b1 (cat (star (lit 0)) (cat (lit 0) (lit 1)));
-      events = load 1 7 ∷ load 1 7 ∷ drop 1 ∷ [];
+      events = load 1 7 ∷ load 1 7 ∷ dropped 1 ∷ [];
       expected = none ∷ none ∷ row17 ∷ [];
     }
 

@@ -90,7 +90,7 @@ symbols-length (star r) = symbols-length r
 symbols-length (plus r) = symbols-length r
 symbols-length (opt r) = symbols-length r
 
--- place p of two lists, one after the other, the first with `size r` elements from place k on
+-- index p of two lists, one after the other, the first with `size r` elements from index k on
 two-lists : (r : Regex) (l : List ℕ) (k p x y : ℕ) → k ≤ p → (p < k + size r → x ≡ getD (symbols r) (p - k) 0) →
     (k + size r ≤ p → y ≡ getD l (p - (k + size r)) 0) → cond (ltb p (k + size r)) x y ≡ getD (symbols r ++ l) (p - k) 0
 two-lists r l k p x y low left right = go (ltb p (k + size r)) refl
@@ -101,12 +101,12 @@ two-lists r l k p x y low left right = go (ltb p (k + size r)) refl
         rw (List·getD-append (symbols r) l 0 (p - k) (omega (arith, symbols-length r))) (left h)
     go false e =
         let h = ltb-false p (k + size r) e in
-        let place : p - k ≡ length (symbols r) + (p - (k + size r)) = omega (arith, symbols-length r) in
-        rw (place, getD-append-add) (right h)
+        let index : p - k ≡ length (symbols r) + (p - (k + size r)) = omega (arith, symbols-length r) in
+        rw (index, getD-append-add) (right h)
 
--- the symbol of a position is its place in the list of symbols
+-- the symbol of a position is the one at its index in the list of symbols
 pub symbolAt-list : (r : Regex) (k p : ℕ) → Among r k p → symbolAt r k p ≡ getD (symbols r) (p - k) 0
-symbolAt-list (lit a) k p h = let place : p - k ≡ 0 = omega arith in rw place
+symbolAt-list (lit a) k p h = let index : p - k ≡ 0 = omega arith in rw index
 symbolAt-list (cat r s) k p h =
     two-lists r (symbols s) k p _ _ (h .low) (λ l. symbolAt-list r k p (omega arith)) (λ l. symbolAt-list s (k + size r) p (omega arith))
 symbolAt-list (alt r s) k p h =

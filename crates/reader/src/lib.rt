@@ -6,8 +6,10 @@ use grammar::Parsed;
 use table::Name;
 use table::Table;
 ghost use mathlib.Core.Path.{_≡_};
+ghost use mathlib.Core.Bool.{true};
 ghost use Prim.Native.Nat.{ℕ, _+_, _≤_};
 ghost use lib.ListN.{length};
+ghost use Rattle.form.specs.Text.{isBytes};
 ghost use Rattle.form.specs.Limits.{variableLimit};
 ghost use Rattle.form.specs.Parse as Parse;
 ghost use Rattle.form.specs.Reading.{variablesOf, lastLine, allBits, matchFrom};
@@ -79,9 +81,9 @@ fn match_from(s: &[u8], t: Table, p: usize) -> Parsed
     grammar::failed(8, first)
 }
 
-// The reading of any bytes.
+// The reading of any bytes; that what is lent is bytes, as the theorems about readings ask, a caller has from here.
 pub fn read(s: &[u8]) -> Reading
-    ensures { λ r. ⌜ r ≡ reading (now (s .entry)) ⌝ }
+    ensures { λ r. ⌜ (r ≡ reading (now (s .entry))) × (isBytes (now (s .entry)) ≡ true) ⌝ }
 {
     if book::TEXT_LIMIT < s.len() {
         return book::refused(1, book::TEXT_LIMIT);

@@ -22,26 +22,26 @@ use Rattle.state.specs.States.{stateOf, viewState}
 use Rattle.sound.specs.Soundness.{bookSound}
 use Rattle.rows.specs.Valuations.{valuationsIn}
 use Rattle.rows.proofs.Valuations as Words
-use Rattle.writer.specs.RowBytes.{rowBytes}
+use Rattle.writer.specs.RowBytes.{rowSize, rowBytes}
 use Rattle.writer.proofs.RowBytes.{row-wide}
 use Rattle.tally.specs.declared.Tally.{Tally}
 use Rattle.tally.specs.Tallies.{tallied}
-use Rattle.watch.specs.Answers.{numberOf}
+use Rattle.calls.specs.Answers.{numberOf}
 use Rattle.watch.specs.Inner.{answerOf}
-use Rattle.watch.specs.Calls.{isAccepted, rowsBy, stateBy, unsound, outOfForm, tooMany, noRoom, noSpace, answerTo, taken, bufferAfter}
-use Rattle.watch.specs.Inner.{Moved}
-use Rattle.watch.specs.declared.Answer.{Answer}
-use Rattle.watch.specs.declared.Answer.the-variants.{Accepted, Unsound, OutOfForm, TooMany, NoRoom, NoSpace}
-use Rattle.watch.specs.declared.Taken.{Taken}
-use Rattle.watch.proofs.Checks.{stepNumber, number-book, BookSound, book-facts}
-use Rattle.watch.proofs.Steps.{mem-take, pad-few}
+use Rattle.calls.specs.Calls.{isAccepted, rowsBy, stateBy, unsound, outOfForm, tooMany, noRoom, noSpace, answerTo, taken, bufferAfter}
+use Rattle.transition.specs.Moves.{Moved}
+use Rattle.calls.specs.declared.EventAnswer.{EventAnswer}
+use Rattle.calls.specs.declared.EventAnswer.the-variants.{Accepted, Unsound, OutOfForm, TooMany, NoRoom, NoSpace}
+use Rattle.calls.specs.declared.Taken.{Taken}
+use Rattle.transition.proofs.Checks.{stepNumber, number-book, BookSound, book-facts}
+use Rattle.transition.proofs.Steps.{mem-take, pad-few}
 
 -- the answer of the checks 9 to 12, and a where none of them fails
-abbrev four : (p q m n : Bool) → Answer → Answer
+abbrev four : (p q m n : Bool) → EventAnswer → EventAnswer
 four p q m n a = cond p Unsound (cond q OutOfForm (cond m TooMany (cond n NoRoom a)))
 
 -- one of the first four fails: the fifth is not looked at, and the answer is told by its number
-four-refused : (p q m n : Bool) (a : Answer) → (numberOf (four p q m n Accepted) ≡ 0 → ⊥)
+four-refused : (p q m n : Bool) (a : EventAnswer) → (numberOf (four p q m n Accepted) ≡ 0 → ⊥)
     → (four p q m n a ≡ answerOf (numberOf (four p q m n Accepted))) × (isAccepted (four p q m n a) ≡ false)
 unfolding answerOf
 four-refused true q m n a h = (refl, refl)
@@ -51,7 +51,7 @@ four-refused false false false true a h = (refl, refl)
 four-refused false false false false a h = absurd (h refl)
 
 -- none of them fails
-four-passed : (p q m n : Bool) (a : Answer) → numberOf (four p q m n Accepted) ≡ 0 → four p q m n a ≡ a
+four-passed : (p q m n : Bool) (a : EventAnswer) → numberOf (four p q m n Accepted) ≡ 0 → four p q m n a ≡ a
 four-passed true q m n a h = absurd (omega arith)
 four-passed false true m n a h = absurd (omega arith)
 four-passed false false true n a h = absurd (omega arith)
@@ -68,7 +68,7 @@ passed-sound b s r h = book-facts b (go (bookSound b) refl)
 
 module _ (b : Book) (s : State) (r buffer : Bytes) (place : ℕ) where
   -- the answer of the buffer's check
-  abbrev last : Answer
+  abbrev last : EventAnswer
   last = cond (noSpace b s r buffer place) NoSpace Accepted
 
   -- the rows of the event, as the rules have them
@@ -109,19 +109,19 @@ module _ (b : Book) (s : State) (r buffer : Bytes) (place : ℕ) where
     told e = answer-passed passed ∙ ap (λ x. cond x NoSpace Accepted) e
 
     -- refused by the buffer's check
-    pub ends-short : (t : Tally) → leb (place + 24 * n) (length buffer) ≡ false → {x : Taken} → x ≡ refusal t 13
+    pub ends-short : (t : Tally) → leb (place + rowSize * n) (length buffer) ≡ false → {x : Taken} → x ≡ refusal t 13
         → (x ≡ taken b s r buffer place t) × (buffer ≡ bufferAfter b s r buffer place)
     unfolding noSpace answerOf
     ends-short t h =
-        let k = leb-false (place + 24 * n) (length buffer) h in
-        let a = told (lt-ltb (length buffer) (place + 24 * length its-rows) (rw (← moved .counted) k)) in
+        let k = leb-false (place + rowSize * n) (length buffer) h in
+        let a = told (lt-ltb (length buffer) (place + rowSize * length its-rows) (rw (← moved .counted) k)) in
         ends-not t 13 a (ap isAccepted a)
 
-    accepted : leb (place + 24 * n) (length buffer) ≡ true → answerTo b s r buffer place ≡ Accepted
+    accepted : leb (place + rowSize * n) (length buffer) ≡ true → answerTo b s r buffer place ≡ Accepted
     unfolding noSpace
     accepted h =
-        let k = leb-true (place + 24 * n) (length buffer) h in
-        told (le-ltb (length buffer) (place + 24 * length its-rows) (rw (← moved .counted) k))
+        let k = leb-true (place + rowSize * n) (length buffer) h in
+        told (le-ltb (length buffer) (place + rowSize * length its-rows) (rw (← moved .counted) k))
 
     next-number : next .number ≡ suc (s .number)
     unfolding stateBy stateOf viewState
@@ -143,7 +143,7 @@ module _ (b : Book) (s : State) (r buffer : Bytes) (place : ℕ) where
         ∙ gather-agree (λ σ. f (wideValuation σ)) f its-rows (λ σ m. row-wide (suc (s .number)) (b .variables) σ (row-few σ m))
 
     -- accepted
-    pub ends-accepted : (t : Tally) → leb (place + 24 * n) (length buffer) ≡ true → {u : Tally} → u ≡ tallied t 1 0 n
+    pub ends-accepted : (t : Tally) → leb (place + rowSize * n) (length buffer) ≡ true → {u : Tally} → u ≡ tallied t 1 0 n
         → {out : Bytes} → out ≡ splice place (gather (rowBytes (next .number) (b .variables)) (take n (valuationsIn words))) buffer
         → (record { answer = Accepted; rows = n; book = b; state = next; tally = u } ≡ taken b s r buffer place t)
         × (out ≡ bufferAfter b s r buffer place)
@@ -153,10 +153,10 @@ module _ (b : Book) (s : State) (r buffer : Bytes) (place : ℕ) where
         (rw (e, a, ← moved .counted, ← moved .after), f ∙ rw (a, rows-written))
 
 -- whether the rows fit, as the code tests it
-pub fits-behind : (size place rows : ℕ) → place ≤ size → leb rows ((size - place) / 24) ≡ leb (place + 24 * rows) size
+pub fits-behind : (size place rows : ℕ) → place ≤ size → leb rows ((size - place) / rowSize) ≡ leb (place + rowSize * rows) size
 fits-behind size place rows h =
-    same-test _ _ (λ e. le-leb (place + 24 * rows) size (omega (arith, leb-true rows ((size - place) / 24) e)))
-    (λ e. le-leb rows ((size - place) / 24) (omega (arith, leb-true (place + 24 * rows) size e)))
+    same-test _ _ (λ e. le-leb (place + rowSize * rows) size (omega (arith, leb-true rows ((size - place) / rowSize) e)))
+    (λ e. le-leb rows ((size - place) / rowSize) (omega (arith, leb-true (place + rowSize * rows) size e)))
 
-pub fits-not : (size place rows : ℕ) → size < place → false ≡ leb (place + 24 * rows) size
-fits-not size place rows h = sym (lt-leb (place + 24 * rows) size (omega arith))
+pub fits-not : (size place rows : ℕ) → size < place → false ≡ leb (place + rowSize * rows) size
+fits-not size place rows h = sym (lt-leb (place + rowSize * rows) size (omega arith))

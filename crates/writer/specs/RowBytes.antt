@@ -11,6 +11,10 @@ use Rattle.form.specs.Limits.{variableLimit}
 abbrev pub rowSize : ℕ
 rowSize = 24
 
+-- "event number (32 bits little-endian …)"
+abbrev pub numberSize : ℕ
+numberSize = 4
+
 -- a number in four bytes, the lowest first
 unfoldable pub wordBytes : ℕ → List ℕ
 wordBytes x = x % 256 ∷ x / 256 % 256 ∷ x / 65536 % 256 ∷ x / 16777216 % 256 ∷ []

@@ -3,6 +3,7 @@
 -- of what it returns `tally_of` gives the new tally, at which the borrow is closed, and `beside_tally` the rest.
 -- The walk knows of each callee only that it meets its contract, and never looks into a struct: their laws come from the modules that
 -- `rattle check` makes of them.
+use mathlib.Core.Bool.{true}
 use mathlib.Core.Path.{_≡_, refl, _∙_, ap}
 use Prim.Native.Nat.{ℕ, _<_, _^_}
 use mathlib.Core.List.{[], _∷_, List}
@@ -50,9 +51,10 @@ use denote.Exit.{yes}
 use Rattle.book.specs.declared.Book.{Book}
 use Rattle.state.specs.declared.State.{State}
 use Rattle.tally.specs.declared.Tally.{Tally}
-use Rattle.watch.specs.declared.Taken.{Taken}
+use Rattle.calls.specs.declared.Taken.{Taken}
 use Rattle.counted.specs.declared.Given as GD
-use Rattle.watch.specs.Calls.{taken, bufferAfter}
+use Rattle.form.specs.Text.{isBytes}
+use Rattle.calls.specs.Calls.{taken, bufferAfter}
 use Rattle.counted.specs.Given.{givenOf}
 use Rattle.book.proofs.Book as B
 use Rattle.book.proofs.Book.Laws as B′
@@ -61,8 +63,8 @@ use Rattle.state.proofs.State.Laws as S′
 use Rattle.tally.proofs.Walks.{local, shown, had}
 use Rattle.tally.proofs.Tally as T
 use Rattle.tally.proofs.Tally.Laws as T′
-use Rattle.watch.proofs.Taken as R
-use Rattle.watch.proofs.Taken.Laws as R′
+use Rattle.calls.proofs.Taken as R
+use Rattle.calls.proofs.Taken.Laws as R′
 use Rattle.counted.proofs.Given as G
 use Rattle.counted.proofs.Given.Laws as G′
 use Rattle.watch.proofs.event as watched
@@ -165,13 +167,13 @@ module _ {M : Type 1} (𝓤 : URA M) (H : Heap 𝓤) (A : Atoms 𝓤) (at-mem : 
         ‵ (fobs γ (T.the-row .coded .code t)) ∷ ‵ (fbor κ₂ (Body (mem T.the-row) b o γ)) ∷ ‵ (flft κ₂ q₂) ∷ ‵ (G.the-row .own g (v ∷ []))
         ∷ tokens ∷ ‵ (finally u8 (rw .name) zs) ∷ []
 
-    exits : (r : Taken) (zs : List ℕ) (t : Tally) (g : GD.Given) (v : Val) → (r ≡ out) × (zs ≡ after) → length zs ≡ length (rw .now)
+    exits : (r : Taken) (zs : List ℕ) (t : Tally) (g : GD.Given) (v : Val) → (r ≡ out) × (zs ≡ after) × (isBytes (by′ .now) ≡ true) → length zs ≡ length (rw .now)
         → t ≡ r .tally → g ≡ givenOf r → ent 𝓤 (⋆ 𝓤 H A (left zs t g v)) (Post v)
     exits r zs t g v e l et eg =
         qed W (left zs t g v) ∵
         suffices ! _ (ends-at 𝓤 H A event.ended stayed clauses W bound v g
         (tt, (tt, (tt, (zs, (tt, (t, tt)))))) (tt, (tt, (tt, (l, (tt, (tt, tt))))))) $
-        says ! (eg ∙ ap givenOf (e .0), e .1, et ∙ ap (λ (x : Taken). x .tally) (e .0)) $
+        says ! (eg ∙ ap givenOf (e .0), e .1, et ∙ ap (λ (x : Taken). x .tally) (e .0), e .2) $
         move ! (4 ∷ []) $ split ! $ move ! (1 ∷ []) $ split ! $
         move ! (5 ∷ 1 ∷ []) $ join ! $ move ! (1 ∷ 0 ∷ []) $ join ! $ move ! (1 ∷ 0 ∷ []) $ join ! $ frame ! $
         -- [obs; the borrow; what the result owns; the rows' last bytes]
@@ -204,7 +206,7 @@ module _ {M : Type 1} (𝓤 : URA M) (H : Heap 𝓤) (A : Atoms 𝓤) (at-mem : 
     last-rows zs = zs .1 .1 .1 .0
 
     abbrev Told : Taken → List ℕ → Type 0
-    Told r zs = (r ≡ out) × (zs ≡ after)
+    Told r zs = (r ≡ out) × (zs ≡ after) × (isBytes (by′ .now) ≡ true)
 
     abbrev promised : Taken → Item 𝓤
     promised r = some (λ (zs : Lasts). ‵ (lasts watched.ended (κ₀, (κ₁, tt)) to zs) ⊛ raw (fact 𝓤 (Told r (last-rows zs))))

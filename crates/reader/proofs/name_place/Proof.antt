@@ -10,7 +10,7 @@ use Rattle.reader.proofs.name_place.Statement.{statement}
 use Rattle.reader.proofs.name_place.Tie as tie
 
 counted : (c : tie.After-read) → c .read .result .book .variables + c .read .result .book .symbols ≡ nameCount (c .before .before .args .s .now)
-counted c = ap (λ r. r .book .variables + r .book .symbols) (c .read .ensures)
+counted c = ap (λ r. r .book .variables + r .book .symbols) (c .read .ensures .0)
 
 read-requires : tie.Need-read-requires
 read-requires c κs = search needs
@@ -28,7 +28,7 @@ returns : tie.Need-returns
 returns c =
     let read = c .before .before .before in
     let a = read .before .before .args in
-    ap (λ r. getD (r .book .names) (a .number) noName) (read .read .ensures) ∙ name-held (a .s .now) (a .number) (omega (arith, counted read))
+    ap (λ r. getD (r .book .names) (a .number) noName) (read .read .ensures .0) ∙ name-held (a .s .now) (a .number) (omega (arith, counted read))
 
 returns-2 : tie.Need-returns-2
 returns-2 c =

@@ -1,5 +1,6 @@
 -- `reader::read` meets its contract: each return is a branch of `readingOf`, chosen by the tests that the code makes.
 use mathlib.Core.Path.{_≡_, sym, ap, ap₂, _∙_}
+use mathlib.Core.Bool.{true}
 use Prim.Native.Nat.{ℕ, _≤_, _<_}
 use native.Mathlib.Omega.{arith}
 use borrow.Author.Needs.{needs}
@@ -8,7 +9,8 @@ use lib.Count.{ones}
 use lib.ListN.{length}
 use Rattle.pattern.specs.Regex.{Regex}
 use Rattle.pattern.specs.Positions.{size}
-use Rattle.form.specs.Text.{Bytes}
+use Rattle.laws.proofs.Slices.{bytes-lent}
+use Rattle.form.specs.Text.{Bytes, isBytes}
 use Rattle.form.specs.Scan.{Step, fail}
 use Rattle.form.specs.Lines as Lines
 use Rattle.form.specs.Lines.{linesOf}
@@ -132,11 +134,15 @@ module _ (s : Bytes) (short : length s ≤ 4096) where
 shorter : (c : tie.Else1) → length (c .before .before .args .s .now) ≤ 4096
 shorter c = omega arith
 
+-- the lent text is bytes
+lent : (c : tie.After-shared-slice-known) → isBytes (c .before .args .s .now) ≡ true
+lent c = bytes-lent (c .before .args .s .now) (c .shared-slice-known .given)
+
 refused-requires : tie.Need-refused-requires
 refused-requires c κs = search needs
 
 returns : tie.Need-returns
-returns c = c .refused .ensures ∙ sym (too-long _ (c .before .if1 .taken))
+returns c = (c .refused .ensures ∙ sym (too-long _ (c .before .if1 .taken)), lent (c .before .before))
 
 lines-of-requires : tie.Need-lines-of-requires
 lines-of-requires c κs = search needs
@@ -147,7 +153,7 @@ refused-requires-2 c κs = search needs
 returns-2 : tie.Need-returns-2
 returns-2 c =
     let lines = c .before .before .before in
-    c .refused2 .ensures ∙ lines-stop _ (shorter (lines .before)) (lines .lines-of .ensures) (c .before .if2 .taken)
+    (c .refused2 .ensures ∙ lines-stop _ (shorter (lines .before)) (lines .lines-of .ensures) (c .before .if2 .taken), lent (lines .before .before))
 
 match-from-requires : tie.Need-match-from-requires
 match-from-requires c κs =
@@ -160,10 +166,12 @@ refused-requires-3 c κs = search needs
 returns-3 : tie.Need-returns-3
 returns-3 c =
     let match = c .before .before .before in
-    let lines = match .before .before .before .before in
-    c .refused3 .ensures
-    ∙ pattern-stop _ (shorter (lines .before)) (lines .lines-of .ensures) (match .before .before .if2 .left) (match .match-from .ensures)
-    (c .before .if3 .taken)
+    let lines = match .before .before .before .before in (
+      c .refused3 .ensures
+          ∙ pattern-stop _ (shorter (lines .before)) (lines .lines-of .ensures) (match .before .before .if2 .left) (match .match-from .ensures)
+          (c .before .if3 .taken),
+      lent (lines .before .before),
+    )
 
 book-of-requires : tie.Need-book-of-requires
 book-of-requires c κs = search needs
@@ -171,10 +179,12 @@ book-of-requires c κs = search needs
 returns-4 : tie.Need-returns-4
 returns-4 c =
     let match = c .before .before .before .before in
-    let lines = match .before .before .before .before in
-    rw (c .book-of .ensures)
-    (accepted-same _ (shorter (lines .before)) (lines .lines-of .ensures) (match .before .before .if2 .left) (match .match-from .ensures)
-    (c .before .before .if3 .left))
+    let lines = match .before .before .before .before in (
+      rw (c .book-of .ensures)
+          (accepted-same _ (shorter (lines .before)) (lines .lines-of .ensures) (match .before .before .if2 .left) (match .match-from .ensures)
+          (c .before .before .if3 .left)),
+      lent (lines .before .before),
+    )
 
 pub read-spec : {M : Type 1} → statement M
 read-spec =

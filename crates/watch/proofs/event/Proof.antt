@@ -1,10 +1,21 @@
 -- `watch::event` meets its contract: by the number of the step and the test for space the call ends in one of three ways.
-use mathlib.Core.Path.{sym, _∙_}
+use mathlib.Core.Path.{_≡_, sym, _∙_}
+use mathlib.Core.Bool.{true}
 use borrow.Author.Needs.{needs}
 use borrow.Author.Tests.{leb-true}
+use Rattle.laws.proofs.Slices.{bytes-lent}
+use Rattle.form.specs.Text.{isBytes}
 use Rattle.watch.proofs.Ends.{passed-sound, ends-refused, ends-short, ends-accepted}
 use Rattle.watch.proofs.event.Statement.{statement}
 use Rattle.watch.proofs.event.Tie as tie
+
+-- the lent record is bytes
+lent : (c : tie.After-shared-slice-known) → isBytes (c .before .args .bytes .now) ≡ true
+lent c = bytes-lent (c .before .args .bytes .now) (c .shared-slice-known .given)
+
+-- how the call ends, and that
+beside : {A B C : Type 0} → A × B → C → A × B × C
+beside (a, b) c = (a, b, c)
 
 step-requires : tie.Need-step-requires
 step-requires c κs = search needs
@@ -13,7 +24,9 @@ refused-requires : tie.Need-refused-requires
 refused-requires c κs = search needs
 
 returns : tie.Need-returns
-returns c = ends-refused _ _ _ _ _ _ _ (c .before .before .before .step .ensures .0) (c .before .if1 .taken) (c .refused .ensures)
+returns c =
+    let step = c .before .before .before in
+    beside (ends-refused _ _ _ _ _ _ _ (step .step .ensures .0) (c .before .if1 .taken) (c .refused .ensures)) (lent (step .before .before .before))
 
 fits-requires : tie.Need-fits-requires
 fits-requires c κs = search needs
@@ -37,10 +50,13 @@ returns-2 : tie.Need-returns-2
 returns-2 c =
     let written = c .before .before .before in
     let fits = written .before .before .before .before in
-    let step = fits .before .before .before .before .step .ensures in
+    let stepped = fits .before .before .before .before in
+    let step = stepped .step .ensures in
     let zero = fits .before .before .if1 .left in
-    ends-accepted _ _ _ _ _ (sym (step .0) ∙ zero) _ _ _ (step .1 zero) _ (sym (fits .before .fits2 .ensures) ∙ fits .if2 .taken) (c .added .ensures)
-    (written .write-rows .ensures)
+    beside
+    (ends-accepted _ _ _ _ _ (sym (step .0) ∙ zero) _ _ _ (step .1 zero) _ (sym (fits .before .fits2 .ensures) ∙ fits .if2 .taken) (c .added .ensures)
+    (written .write-rows .ensures))
+    (lent (stepped .before .before .before))
 
 refused-requires-2 : tie.Need-refused-requires-2
 refused-requires-2 c κs = search needs
@@ -48,9 +64,12 @@ refused-requires-2 c κs = search needs
 returns-3 : tie.Need-returns-3
 returns-3 c =
     let fits = c .before in
-    let step = fits .before .before .before .before .step .ensures in
+    let stepped = fits .before .before .before .before in
+    let step = stepped .step .ensures in
     let zero = fits .before .before .if1 .left in
-    ends-short _ _ _ _ _ (sym (step .0) ∙ zero) _ _ _ (step .1 zero) _ (sym (fits .before .fits2 .ensures) ∙ fits .if2 .left) (c .refused2 .ensures)
+    beside
+    (ends-short _ _ _ _ _ (sym (step .0) ∙ zero) _ _ _ (step .1 zero) _ (sym (fits .before .fits2 .ensures) ∙ fits .if2 .left) (c .refused2 .ensures))
+    (lent (stepped .before .before .before))
 
 pub event-spec : {M : Type 1} → statement M
 event-spec =

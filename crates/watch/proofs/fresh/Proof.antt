@@ -1,6 +1,6 @@
 -- `watch::fresh` meets its contract: it is the vacant state of number 0.
 use borrow.Author.Needs.{needs}
-use Rattle.watch.specs.Calls.{freshState}
+use Rattle.calls.specs.Calls.{freshState}
 use Rattle.watch.proofs.fresh.Statement.{statement}
 use Rattle.watch.proofs.fresh.Tie as tie
 

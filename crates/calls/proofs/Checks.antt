@@ -1,0 +1,195 @@
+-- For any book and state, reached by a run or not: the number that a call hands back is that of the first check that fails, a refusal
+-- leaves all but the refused counter, and an event has few rows.
+use mathlib.Core.Path.{_≡_, refl, ap, _∙_}
+use mathlib.Core.Bool.{Bool, true, false, cond, not, _&&_, _||_, and-false, or-true, false≢true}
+use mathlib.Core.List.{List, [], _∷_}
+use mathlib.Core.Logic.{_↔_, Iff·trans, ⊎-elim}
+use Prim.Native.Nat.{ℕ, _*_, _≤_}
+use native.Mathlib.Omega.{arith}
+use borrow.Author.Tests.{eqb-true, eqb-false, eq-eqb, ltb-true, lt-ltb, not-true}
+use lib.Dec.{eqb, leb}
+use Rattle.meaning.specs.Book.{soundBook}
+use Rattle.meaning.specs.Rows.{rows, leavesFree}
+use Rattle.meaning.specs.Sound.{soundHeld, soundState, eventLimit}
+use Rattle.meaning.proofs.Few.{few-rows}
+use Rattle.meaning.proofs.NoRoom.{no-room}
+use Rattle.laws.proofs.Lists.{same-test, and-true-split, and-false-split, or-true-split, or-false-split, either}
+use Rattle.form.specs.Text.{Bytes}
+use Rattle.record.specs.Records.{isRecord, eventIn}
+use Rattle.book.specs.Books.{viewBook}
+use Rattle.book.specs.declared.Book.{Book}
+use Rattle.state.specs.declared.State.{State}
+use Rattle.state.specs.States.{heldFirst, viewState}
+use Rattle.sound.specs.Soundness.{bookCounts, bookSound, stateCounts, stateSound}
+use Rattle.tally.specs.declared.Tally.{Tally}
+use Rattle.tally.specs.Tallies.{tallied}
+use Rattle.calls.specs.Answers.{Check, numberOf, firstOf}
+use Rattle.calls.specs.Calls as Calls
+use Rattle.calls.specs.Calls.{isAccepted, rowsBy, leavesFreeBy, roomBy, answerTo, taken, bufferAfter}
+use Rattle.calls.specs.Checks.{Unsound, unsoundBook, unsoundState, leftFree, OutOfForm, TooMany, NoRoom, NoSpace, FirstFailing}
+use Rattle.calls.specs.Runs.{Lent}
+use Rattle.calls.specs.declared.EventAnswer.{EventAnswer}
+use Rattle.calls.specs.declared.EventAnswer.the-variants as Answer
+use Rattle.calls.specs.declared.Taken.{Taken}
+use Rattle.calls.proofs.Course.{taken-answer, taken-refused}
+
+-- Lists of checks, and the number of the first that fails.
+module _ (x : ℕ) where
+  -- some check of the list has the number x, or acceptance has
+  abbrev gives : List Check → Bool
+  gives [] = eqb 0 x
+  gives (c ∷ cs) = eqb (numberOf (c .answer)) x || gives cs
+
+  never-gives : (cs : List Check) → gives cs ≡ false → numberOf (firstOf cs) ≡ x → ⊥
+  never-gives [] h e = eqb-false 0 x h e
+  never-gives (c ∷ cs) h e =
+      let (p, q) = or-false-split (eqb (numberOf (c .answer)) x) (gives cs) h in
+      either (λ a. numberOf a ≡ x → ⊥) (c .fails) (λ _. eqb-false _ x p) (λ _. never-gives cs q) e
+
+  -- the number is behind the first check, which fails just where P is
+  behind-first : (c : Check) (cs : List Check) → eqb (numberOf (c .answer)) x ≡ false → {P Q : Type 0} → (c .fails ≡ true) ↔ P
+      → (numberOf (firstOf cs) ≡ x) ↔ Q → (numberOf (firstOf (c ∷ cs)) ≡ x) ↔ ((P → ⊥) × Q)
+  behind-first c cs h {P} {Q} p k =
+      go (c .fails) p
+    where
+      go : (z : Bool) → (z ≡ true) ↔ P → (numberOf (cond z (c .answer) (firstOf cs)) ≡ x) ↔ ((P → ⊥) × Q)
+      go true p = (λ e. absurd (eqb-false _ x h e), λ e. absurd (e .0 (p .0 refl)))
+      go false p = (λ e. (λ y. false≢true (p .1 y), k .0 e), λ e. k .1 (e .1))
+
+-- the number is that of the first check
+at-first : (c : Check) (cs : List Check) → gives (numberOf (c .answer)) cs ≡ false
+    → (numberOf (firstOf (c ∷ cs)) ≡ numberOf (c .answer)) ↔ (c .fails ≡ true)
+at-first c cs h = go (c .fails)
+  where
+    go : (z : Bool) → (numberOf (cond z (c .answer) (firstOf cs)) ≡ numberOf (c .answer)) ↔ (z ≡ true)
+    go true = (λ _. refl, λ _. refl)
+    go false = (λ e. absurd (never-gives _ cs h e), λ e. absurd (false≢true e))
+
+-- the last check: none fails
+passed : (c : Check) → eqb (numberOf (c .answer)) 0 ≡ false → {P : Type 0} → (c .fails ≡ true) ↔ P → (numberOf (firstOf (c ∷ [])) ≡ 0) ↔ (P → ⊥)
+passed c h {P} p =
+    go (c .fails) p
+  where
+    go : (z : Bool) → (z ≡ true) ↔ P → (numberOf (cond z (c .answer) Answer.Accepted) ≡ 0) ↔ (P → ⊥)
+    go true p = (λ e. absurd (eqb-false _ 0 h e), λ e. absurd (e (p .0 refl)))
+    go false p = (λ _ y. false≢true (p .1 y), λ _. refl)
+
+-- three, four and five facts in a row
+row3 : {N A B C : Type 0} → N ↔ (A × (B × C)) → N ↔ (A × B × C)
+row3 h = (λ n. let (a, (b, c)) = h .0 n in (a, b, c), λ (a, b, c). h .1 (a, (b, c)))
+
+row4 : {N A B C D : Type 0} → N ↔ (A × (B × (C × D))) → N ↔ (A × B × C × D)
+row4 h = (λ n. let (a, (b, (c, d))) = h .0 n in (a, b, c, d), λ (a, b, c, d). h .1 (a, (b, (c, d))))
+
+row5 : {N A B C D E : Type 0} → N ↔ (A × (B × (C × (D × E)))) → N ↔ (A × B × C × D × E)
+row5 h = (λ n. let (a, (b, (c, (d, e)))) = h .0 n in (a, b, c, d, e), λ (a, b, c, d, e). h .1 (a, (b, (c, (d, e)))))
+
+-- Each check of the list fails just where document 01's words are true.
+module _ (b : Book) (s : State) (bytes : Bytes) where
+  unsound-is : (Calls.unsound b s bytes ≡ true) ↔ Unsound b s bytes
+  unfolding Calls.unsound leavesFreeBy
+  unsound-is = (
+    λ h. ⊎-elim (λ k. ⊎-elim unsoundBook unsoundState (and-false-split (bookSound b) (stateSound b s) (not-true _ k)))
+        (λ k. let (f, g) = and-true-split (isRecord bytes) _ k in leftFree f g)
+        (or-true-split (not (bookSound b && stateSound b s)) _ h),
+    back,
+  )
+    where
+      back : Unsound b s bytes → (not (bookSound b && stateSound b s) || isRecord bytes && leavesFree (viewBook b) (heldFirst (b .variables) s) (eventIn bytes)) ≡ true
+      back (unsoundBook h) = rw h
+      back (unsoundState h) = rw (h, and-false)
+      back (leftFree f g) = rw (f, g, or-true)
+
+  outOfForm-is : (Calls.outOfForm b s bytes ≡ true) ↔ OutOfForm b s bytes
+  unfolding Calls.outOfForm
+  outOfForm-is = (not-true _, λ h. ap not h)
+
+  tooMany-is : (Calls.tooMany b s bytes ≡ true) ↔ TooMany b s bytes
+  unfolding Calls.tooMany
+  tooMany-is = (eqb-true (s .number) eventLimit, eq-eqb (s .number) eventLimit)
+
+  noRoom-is : (Calls.noRoom b s bytes ≡ true) ↔ NoRoom b s bytes
+  unfolding Calls.noRoom roomBy
+  noRoom-is = let r = no-room (viewBook b) (heldFirst (b .variables) s) (eventIn bytes) in (λ h. r .0 (not-true _ h), λ h. ap not (r .1 h))
+
+  noSpace-is : (buffer : Bytes) (place : ℕ) → (Calls.noSpace b s bytes buffer place ≡ true) ↔ NoSpace b s bytes buffer place
+  unfolding Calls.noSpace rowsBy
+  noSpace-is buffer place = (ltb-true _ _, lt-ltb _ _)
+
+-- "Events: 9 to 13 in that order", of what a call hands back
+pub first-failing : (b : Book) (s : State) (bytes buffer : Bytes) (place : ℕ) (t : Tally)
+    → FirstFailing b s bytes buffer place (numberOf (taken b s bytes buffer place t .answer))
+unfolding answerTo
+first-failing b s bytes buffer place t =
+    let l : Lent = record { bytes = bytes; buffer = buffer; place = place; tally = t } in
+    let c9 : Check = record { fails = Calls.unsound b s bytes; answer = Answer.Unsound } in
+    let c10 : Check = record { fails = Calls.outOfForm b s bytes; answer = Answer.OutOfForm } in
+    let c11 : Check = record { fails = Calls.tooMany b s bytes; answer = Answer.TooMany } in
+    let c12 : Check = record { fails = Calls.noRoom b s bytes; answer = Answer.NoRoom } in
+    let c13 : Check = record { fails = Calls.noSpace b s bytes buffer place; answer = Answer.NoSpace } in
+    let l13 = c13 ∷ [] in
+    let l12 = c12 ∷ l13 in
+    let l11 = c11 ∷ l12 in
+    let l10 = c10 ∷ l11 in
+    let p9 = unsound-is b s bytes in
+    let p10 = outOfForm-is b s bytes in
+    let p11 = tooMany-is b s bytes in
+    let p12 = noRoom-is b s bytes in
+    let p13 = noSpace-is b s bytes buffer place in
+    rw (taken-answer b s l) (record {
+      nine = Iff·trans (at-first c9 l10 refl) p9;
+      ten = behind-first 10 c9 l10 refl p9 (Iff·trans (at-first c10 l11 refl) p10);
+      eleven = row3 (behind-first 11 c9 l10 refl p9 (behind-first 11 c10 l11 refl p10 (Iff·trans (at-first c11 l12 refl) p11)));
+      twelve = row4 (behind-first 12 c9 l10 refl p9 (behind-first 12 c10 l11 refl p10 (behind-first 12 c11 l12 refl p11
+          (Iff·trans (at-first c12 l13 refl) p12))));
+      thirteen = row5 (behind-first 13 c9 l10 refl p9 (behind-first 13 c10 l11 refl p10 (behind-first 13 c11 l12 refl p11
+          (behind-first 13 c12 l13 refl p12 (Iff·trans (at-first c13 [] refl) p13)))));
+      zero = row5 (behind-first 0 c9 l10 refl p9 (behind-first 0 c10 l11 refl p10 (behind-first 0 c11 l12 refl p11
+          (behind-first 0 c12 l13 refl p12 (passed c13 refl p13)))));
+    })
+
+-- acceptance is 0, and nothing else is
+zero-accepted : (a : EventAnswer) → isAccepted a ≡ true → numberOf a ≡ 0
+zero-accepted Answer.Accepted h = refl
+zero-accepted Answer.Unsound h = absurd (false≢true h)
+zero-accepted Answer.OutOfForm h = absurd (false≢true h)
+zero-accepted Answer.TooMany h = absurd (false≢true h)
+zero-accepted Answer.NoRoom h = absurd (false≢true h)
+zero-accepted Answer.NoSpace h = absurd (false≢true h)
+
+-- "all unchanged", but one refused event more: answers 9 to 13, of what a call hands back
+pub refused-stays : (b : Book) (s : State) (bytes buffer : Bytes) (place : ℕ) (t : Tally) → (numberOf (taken b s bytes buffer place t .answer) ≡ 0 → ⊥)
+    → (taken b s bytes buffer place t .state ≡ s) × (taken b s bytes buffer place t .book ≡ b) × (taken b s bytes buffer place t .rows ≡ 0)
+    × (taken b s bytes buffer place t .tally ≡ tallied t 0 1 0) × (bufferAfter b s bytes buffer place ≡ buffer)
+refused-stays b s bytes buffer place t h =
+    let l : Lent = record { bytes = bytes; buffer = buffer; place = place; tally = t } in
+    let a = taken-answer b s l in
+    let n : isAccepted (answerTo b s bytes buffer place) ≡ false = not-accepted (answerTo b s bytes buffer place) (λ z. h (ap numberOf a ∙ z)) in
+    let (e, f) = taken-refused b s l n in
+    rw e (refl, refl, refl, refl, f)
+  where
+    not-accepted : (a : EventAnswer) → (numberOf a ≡ 0 → ⊥) → isAccepted a ≡ false
+    not-accepted a k = same-test (isAccepted a) false (λ g. absurd (k (zero-accepted a g))) (λ g. absurd (false≢true g))
+
+-- a book and a state that pass check 9
+sound-parts : (b : Book) (s : State) → bookSound b ≡ true → stateSound b s ≡ true
+    → (soundBook (viewBook b) ≡ true) × (soundHeld (viewBook b) (heldFirst (b .variables) s) ≡ true)
+unfolding bookSound stateSound soundState viewState
+sound-parts b s p q =
+    (and-true-split (bookCounts b) _ p .1, and-true-split (leb (s .number) eventLimit) _ (and-true-split (stateCounts (b .variables) s) _ q .1) .1)
+
+-- "an event has at most 16 × 129 rows", for any book and state
+pub few-taken : (b : Book) (s : State) (bytes buffer : Bytes) (place : ℕ) (t : Tally) → taken b s bytes buffer place t .rows ≤ 16 * 129
+unfolding taken rowsBy
+few-taken b s bytes buffer place t =
+    either (λ (r : Taken). r .rows ≤ 16 * 129) (isAccepted (answerTo b s bytes buffer place))
+    (λ h.
+    let l : Lent = record { bytes = bytes; buffer = buffer; place = place; tally = t } in
+    let passes = first-failing b s bytes buffer place t .zero .0 (ap numberOf (taken-answer b s l) ∙ zero-accepted (answerTo b s bytes buffer place) h) .0 in
+    let (p, q) = sound-parts b s (yes _ (λ n. passes (unsoundBook n))) (yes _ (λ n. passes (unsoundState n))) in
+    few-rows (viewBook b) p (heldFirst (b .variables) s) q (eventIn bytes))
+    λ _. omega arith
+  where
+    yes : (a : Bool) → (a ≡ false → ⊥) → a ≡ true
+    yes true h = refl
+    yes false h = absurd (h refl)

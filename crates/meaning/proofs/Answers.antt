@@ -1,0 +1,46 @@
+-- What the definitions compute, by computation from them alone, so that a wrong one is refused here first, because a fact is false. `starred`:
+-- every starred roast that is an event run comes out as document 01 has it; `on-the-way`, `partial-held`, `mixed-held` and `full` are
+-- further cases about room and about what is held.
+use mathlib.Core.Path.{_≡_, refl}
+use mathlib.Core.Bool.{Bool, true, false}
+use mathlib.Core.List.{List, [], map}
+use lib.ListN.{replicate}
+use Rattle.laws.specs.Bits.{bit, join, meet, single}
+use Rattle.laws.specs.Lists.{all}
+use Rattle.meaning.specs.Events.{matches, constraintOf, wellFormed}
+use Rattle.meaning.specs.Book.{bookOf, isProper, soundSymbol}
+use Rattle.meaning.specs.Labels.{compareDisjuncts, skipBy, sources, stepSet, skipSet, newLabel, newHeld}
+use Rattle.meaning.specs.Room.{setRoom, room}
+use Rattle.meaning.specs.Rows.{rows}
+use Rattle.meaning.specs.Runs.{heldAfter}
+use Rattle.meaning.specs.Starred.{Case, Answer, answers, table, onTheWay, partial, partialCalls, partialHeld}
+use Rattle.meaning.specs.Starred.{mixed, mixedCalls, mixedHeld}
+
+abbrev pub outcome : Case → Bool × Bool × List Answer
+outcome c = (isProper (c .tracematch), all wellFormed (c .events), answers (bookOf (c .tracematch)) [] (c .events))
+
+abbrev pub wanted : Case → Bool × Bool × List Answer
+wanted c = (true, true, c .expected)
+
+pub starred : map outcome table ≡ map wanted table
+unfolding bit join meet single matches constraintOf wellFormed bookOf isProper soundSymbol compareDisjuncts skipBy sources stepSet skipSet newLabel
+    newHeld setRoom room rows table
+starred = refl
+
+pub on-the-way : outcome onTheWay ≡ wanted onTheWay
+unfolding bit join meet single matches constraintOf wellFormed bookOf isProper soundSymbol compareDisjuncts skipBy sources stepSet skipSet newLabel
+    newHeld setRoom room rows onTheWay
+on-the-way = refl
+
+pub partial-held : heldAfter partial partialCalls ≡ partialHeld
+unfolding bit join single matches constraintOf bookOf compareDisjuncts skipBy sources stepSet skipSet newLabel newHeld
+partial-held = refl
+
+pub mixed-held : heldAfter mixed mixedCalls ≡ mixedHeld
+unfolding bit join single matches constraintOf bookOf compareDisjuncts skipBy sources stepSet skipSet newLabel newHeld
+mixed-held = refl
+
+-- "exceeds 128": a set of 128 disjuncts has room, one of 129 has none
+pub full : (setRoom (replicate 128 []) ≡ true) × (setRoom (replicate 129 []) ≡ false)
+unfolding setRoom
+full = (refl, refl)

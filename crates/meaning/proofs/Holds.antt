@@ -1,0 +1,50 @@
+-- The matcher's constraint of a symbol on an event (demands, two unequal ones on a variable make it false) says of a valuation what the
+-- declarative `holds` says of it. A wrong `compatible`, `demandsOf` or `constraintOf` is refused here.
+use mathlib.Core.Path.{_≡_, refl, sym, ap, ap₂, _∙_}
+use mathlib.Core.Bool.{Bool, true, false, cond, not, _&&_, _||_, false≢true}
+use mathlib.Core.List.{List, [], _∷_}
+use Prim.Native.Nat.{ℕ}
+use lib.Dec.{eqb}
+use lib.ListN.{getD}
+use borrow.Author.Tests.{eqb-true, eq-eqb}
+use Rattle.laws.specs.Lists.{all}
+use Rattle.laws.proofs.Lists.{same-test, all-of, all-at, and-true-split}
+use Rattle.meaning.specs.Events.{Place, ignored, names, Symbol, Event, Demand, never, demands, matches, demandsOf, compatible, consistent}
+use Rattle.meaning.specs.Events.{constraintOf, Valuation, agrees, satisfies, equalAll, holds}
+
+-- demands that one valuation meets are not unequal on a variable
+met-compatible : (σ : Valuation) (c d : Demand) → agrees σ c ≡ true → agrees σ d ≡ true → compatible c d ≡ true
+met-compatible σ c d g h =
+    go (eqb (c .variable) (d .variable)) refl
+  where
+    go : (b : Bool) → eqb (c .variable) (d .variable) ≡ b → (not b || eqb (c .value) (d .value)) ≡ true
+    go true e =
+        let v = ap (λ i. getD σ i 0) (eqb-true (c .variable) (d .variable) e) in
+        eq-eqb (c .value) (d .value) (sym (eqb-true _ (c .value) g) ∙ v ∙ eqb-true _ (d .value) h)
+    go false e = refl
+
+met-consistent : (σ : Valuation) (ds : List Demand) → all (agrees σ) ds ≡ true → consistent ds ≡ true
+met-consistent σ [] h = refl
+met-consistent σ (d ∷ ds) h =
+    let (g, k) = and-true-split (agrees σ d) (all (agrees σ) ds) h in
+    ap₂ _&&_ (all-of (compatible d) ds (λ c m. met-compatible σ d c g (all-at (agrees σ) k m))) (met-consistent σ ds k)
+
+-- the demands of a symbol's places are what the places ask
+demands-equal : (σ : Valuation) (ps : List Place) (xs : List ℕ) → all (agrees σ) (demandsOf ps xs) ≡ equalAll σ ps xs
+demands-equal σ [] xs = refl
+demands-equal σ (p ∷ ps) [] = refl
+demands-equal σ (ignored ∷ ps) (x ∷ xs) = demands-equal σ ps xs
+demands-equal σ (names v ∷ ps) (x ∷ xs) = ap (λ b. eqb (getD σ v 0) x && b) (demands-equal σ ps xs)
+
+pub holds-satisfies : (s : Symbol) (e : Event) (σ : Valuation) → holds s e σ ≡ satisfies (constraintOf s e) σ
+unfolding holds constraintOf
+holds-satisfies s e σ =
+    ap (λ b. matches s e && b) (sym (demands-equal σ (s .places) (e .args))) ∙ go (matches s e) (consistent ds) (met-consistent σ ds)
+  where
+    ds : List Demand
+    ds = demandsOf (s .places) (e .args)
+
+    go : (a b : Bool) → (all (agrees σ) ds ≡ true → b ≡ true) → (a && all (agrees σ) ds) ≡ satisfies (cond (a && b) (demands ds) never) σ
+    go true true h = refl
+    go true false h = same-test (all (agrees σ) ds) false (λ g. absurd (false≢true (h g))) (λ g. absurd (false≢true g))
+    go false b h = refl

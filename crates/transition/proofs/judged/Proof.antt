@@ -1,0 +1,111 @@
+-- `transition::judged` meets its contract: the lent words hold what the state holds, made wide, and the masks and constraints are those of
+-- the book, so that each test is the one of `judgedNumber`.
+use mathlib.Core.Path.{_∙_}
+use native.Mathlib.Omega.{arith}
+use borrow.Author.Needs.{needs}
+use Rattle.transition.proofs.Checks.{book-facts, state-facts}
+use Rattle.transition.proofs.Steps.{constraints-known, places-sound, masks-known, free-ends, many-ends, moved-number}
+use Rattle.transition.proofs.judged.Statement.{statement}
+use Rattle.transition.proofs.judged.Tie as tie
+
+constraints-requires : tie.Need-constraints-requires
+constraints-requires c κs =
+    let p = c .before .before .pre in
+    let b = book-facts _ (p .0) in
+    (b .counts .symbols, p .2, b .symbols)
+
+load-requires : tie.Need-load-requires
+load-requires c κs =
+    let p = c .before .before .before .before .before .pre in
+    (state-facts _ _ (p .1) .count, book-facts _ (p .0) .variables)
+
+follow-masks-requires : tie.Need-follow-masks-requires
+follow-masks-requires c κs =
+    let load = c .before .before in
+    let p = load .before .before .before .before .before .before .pre in
+    let b = book-facts _ (p .0) in
+    let s = state-facts _ _ (p .1) in
+    (s .count, places-sound _ _ b s _ _ (load .load .ensures))
+
+leaves-free-requires : tie.Need-leaves-free-requires
+leaves-free-requires c κs =
+    let masks = c .before .before .before in
+    let load = masks .before .before .before in
+    let cs = load .before .before .before in
+    let p = cs .before .before .before .pre in
+    let b = book-facts _ (p .0) in
+    let s = state-facts _ _ (p .1) in
+    let followed = masks-known _ _ b s _ _ (load .load .ensures) _ (masks .follow-masks .ensures) in
+    (s .count, b .counts, b .view, followed, cs .constraints .ensures .1)
+
+refusal-requires : tie.Need-refusal-requires
+refusal-requires c κs = search needs
+
+returns : tie.Need-returns
+returns c =
+    let test = c .before .before in
+    let load = test .before .before .before .before .before .before .before in
+    let cs = load .before .before .before in
+    let p = cs .before .before .before .pre in
+    let b = book-facts _ (p .0) in
+    let s = state-facts _ _ (p .1) in
+    let tested = test .leaves-free .ensures _ (constraints-known _ _ _ (cs .constraints .ensures .0)) in
+    free-ends _ _ b s _ _ (load .load .ensures) _ _ tested (c .before .if1 .taken) (c .refusal .ensures .0)
+
+refusal-requires-2 : tie.Need-refusal-requires-2
+refusal-requires-2 c κs = search needs
+
+returns-2 : tie.Need-returns-2
+returns-2 c =
+    let left = c .before .before .before in
+    let test = left .before in
+    let load = test .before .before .before .before .before .before .before in
+    let cs = load .before .before .before in
+    let p = cs .before .before .before .pre in
+    let b = book-facts _ (p .0) in
+    let s = state-facts _ _ (p .1) in
+    let tested = test .leaves-free .ensures _ (constraints-known _ _ _ (cs .constraints .ensures .0)) in
+    many-ends _ _ b s _ _ (load .load .ensures) _ _ tested (left .if1 .left) (c .before .if2 .taken) (c .refusal2 .ensures .0)
+
+moved-requires : tie.Need-moved-requires
+moved-requires c κs =
+    let below = c .before .before .before .before in
+    let masks = below .before .before .before .before .before .before .before in
+    let load = masks .before .before .before in
+    let cs = load .before .before .before in
+    let p = cs .before .before .before .pre in
+    let b = book-facts _ (p .0) in
+    let s = state-facts _ _ (p .1) in
+    let loaded = load .load .ensures in
+    let followed = masks-known _ _ b s _ _ loaded _ (masks .follow-masks .ensures) in
+    (p .0, p .1, omega (arith, s .number, below .if2 .left), loaded, followed, cs .constraints .ensures .1)
+
+returns-3 : tie.Need-returns-3
+returns-3 c =
+    let below = c .before .before .before .before .before in
+    let left = below .before .before in
+    let test = left .before in
+    let load = test .before .before .before .before .before .before .before in
+    let cs = load .before .before .before in
+    let p = cs .before .before .before .pre in
+    let b = book-facts _ (p .0) in
+    let s = state-facts _ _ (p .1) in
+    let known = constraints-known _ _ _ (cs .constraints .ensures .0) in
+    let tested = test .leaves-free .ensures _ known in
+    let r = c .moved .ensures _ known in
+    (r .0 ∙ moved-number _ _ b s _ _ (load .load .ensures) _ _ tested (left .if1 .left) (below .if2 .left), r .1)
+
+pub judged-spec : {M : Type 1} → statement M
+judged-spec =
+    tie.close
+    (tie.spec
+    constraints-requires
+    load-requires
+    follow-masks-requires
+    leaves-free-requires
+    refusal-requires
+    returns
+    refusal-requires-2
+    returns-2
+    moved-requires
+    returns-3)

@@ -1,0 +1,2 @@
+-- What the pure step of an event hands on to the event call.
+pub mod Moves
