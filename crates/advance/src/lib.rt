@@ -19,7 +19,7 @@ ghost use Rattle.meaning.specs.Book.{soundBook, followers};
 ghost use Rattle.meaning.specs.Labels.{compareDisjuncts, newHeld};
 ghost use Rattle.meaning.specs.Room.{heldLimit, room};
 ghost use Rattle.meaning.specs.Sound.{soundHeld};
-ghost use Rattle.form.specs.Limits.{symbolLimit};
+ghost use Rattle.meaning.specs.Limits.{symbolLimit};
 ghost use Rattle.work.specs.Wide.{wideBook};
 ghost use Rattle.work.specs.Bounded.{pick, labelled, appended};
 ghost use Rattle.constraint.specs.Constraints.{viewConstraint, noConstraint, Ready};

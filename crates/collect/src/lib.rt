@@ -21,7 +21,7 @@ ghost use Rattle.meaning.specs.Events.{Event, constraintOf};
 ghost use Rattle.meaning.specs.Book.{soundBook, followers};
 ghost use Rattle.meaning.specs.Room.{heldLimit};
 ghost use Rattle.meaning.specs.Rows.{compareValuations, rows};
-ghost use Rattle.form.specs.Limits.{variableLimit};
+ghost use Rattle.meaning.specs.Limits.{variableLimit};
 ghost use Rattle.work.specs.Wide.{wideBook};
 ghost use Rattle.work.specs.Bounded.{pick, withStart, rowLimit, rowsWith, freeIn, freeRows};
 ghost use Rattle.constraint.specs.Constraints.{viewConstraint, noConstraint, Ready};

@@ -12,9 +12,9 @@ ghost use lib.ListN.{take, drop, getD};
 ghost use Rattle.laws.specs.Lists.{all};
 ghost use Rattle.meaning.specs.Events as Events;
 ghost use Rattle.meaning.specs.Book.{soundPlace};
-ghost use Rattle.form.specs.Limits.{variableLimit, symbolLimit, parameterLimit};
+ghost use Rattle.meaning.specs.Limits.{variableLimit, symbolLimit, parameterLimit, argumentLimit};
 ghost use Rattle.table.specs.Tables.{viewSymbol};
-ghost use Rattle.record.specs.Records.{argumentLimit, viewEvent};
+ghost use Rattle.record.specs.Records.{viewEvent};
 ghost use Rattle.constraint.specs.Constraints.{noDemand, noConstraint, demandsIn, viewConstraint, Ready};
 
 // "variable equals argument"

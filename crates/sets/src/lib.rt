@@ -13,7 +13,7 @@ ghost use Rattle.laws.specs.Order.{ascending};
 ghost use Rattle.laws.specs.Sets.{insert, insertAll, within};
 ghost use Rattle.meaning.specs.Labels.{compareDisjuncts};
 ghost use Rattle.meaning.specs.Room.{heldLimit};
-ghost use Rattle.form.specs.Limits.{variableLimit};
+ghost use Rattle.meaning.specs.Limits.{variableLimit};
 ghost use Rattle.slot.specs.Slots.{viewSlot};
 ghost use Rattle.disjunct.specs.Disjuncts.{viewDisjunct};
 ghost use Rattle.sets.specs.Sets.{slotWords, disjunctWords, entryAt, entriesIn, disjunctsIn, grownIn};
