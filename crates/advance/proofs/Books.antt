@@ -21,10 +21,10 @@ use Rattle.meaning.specs.Labels.{Held, compareDisjuncts, newHeld}
 use Rattle.meaning.specs.Room.{room}
 use Rattle.meaning.specs.Sound.{soundHeld}
 use Rattle.table.specs.Tables.{viewSymbol}
-use Rattle.work.specs.Wide.{wideBook}
-use Rattle.work.specs.Bounded.{pick, labelled, appended}
-use Rattle.work.proofs.Picks.{label-pick}
-use Rattle.work.proofs.Labels.{labelAt, advanced, advanced-full, advanced-all, labelled-at, label-ascending}
+use Rattle.bounded.specs.Wide.{wideBook}
+use Rattle.bounded.specs.Bounded.{pick, labelled, appended}
+use Rattle.bounded.proofs.Picks.{label-pick}
+use Rattle.bounded.proofs.Labels.{labelAt, advanced, advanced-full, advanced-all, labelled-at, label-ascending}
 use Rattle.constraint.specs.declared.Constraint.{Constraint}
 use Rattle.constraint.specs.Constraints.{viewConstraint, noConstraint}
 use Rattle.sets.specs.Sets.{disjunctsIn}

@@ -14,8 +14,8 @@ use Rattle.laws.specs.Sets.{Grown, full, grown}
 use Rattle.laws.proofs.Turns.{counted-few, counted-over, few-counted, over-counted}
 use Rattle.meaning.specs.Labels.{Disjunct, Held, heldAt}
 use Rattle.meaning.specs.Room.{heldLimit}
-use Rattle.work.specs.Bounded.{heldOf, appended}
-use Rattle.work.proofs.Picks.{held-of-length}
+use Rattle.bounded.specs.Bounded.{heldOf, appended}
+use Rattle.bounded.proofs.Picks.{held-of-length}
 use Rattle.sets.specs.Sets.{disjunctsIn, grownIn}
 use Rattle.sets.proofs.Sets.{in-length, in-grown, in-full}
 use Rattle.advance.specs.Held.{heldIn, heldGrown}

@@ -9,7 +9,7 @@ use Rattle.pattern.specs.Positions.{occurrenceLimit}
 use Rattle.meaning.specs.Labels.{Held}
 use Rattle.meaning.specs.Room.{heldLimit}
 use Rattle.meaning.specs.Limits.{symbolLimit}
-use Rattle.work.specs.Bounded.{heldOf}
+use Rattle.bounded.specs.Bounded.{heldOf}
 use Rattle.sets.specs.Sets.{disjunctsIn}
 use Rattle.book.specs.declared.Book.{Book}
 

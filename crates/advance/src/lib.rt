@@ -2,8 +2,8 @@
 use book::Book;
 use constraint::Constraint;
 use constraint::Constraints;
+use sets::CAPACITY;
 use sets::NO_ROOM;
-use sets::PLACES;
 use sets::Words;
 ghost use mathlib.Core.Path.{_≡_};
 ghost use mathlib.Core.Bool.{true, cond, not};
@@ -20,8 +20,8 @@ ghost use Rattle.meaning.specs.Labels.{compareDisjuncts, newHeld};
 ghost use Rattle.meaning.specs.Room.{heldLimit, room};
 ghost use Rattle.meaning.specs.Sound.{soundHeld};
 ghost use Rattle.meaning.specs.Limits.{symbolLimit};
-ghost use Rattle.work.specs.Wide.{wideBook};
-ghost use Rattle.work.specs.Bounded.{pick, labelled, appended};
+ghost use Rattle.bounded.specs.Wide.{wideBook};
+ghost use Rattle.bounded.specs.Bounded.{pick, labelled, appended};
 ghost use Rattle.constraint.specs.Constraints.{viewConstraint, noConstraint, Ready};
 ghost use Rattle.sets.specs.Sets.{disjunctsIn, grownIn};
 ghost use Rattle.book.specs.Books.{viewBook};
@@ -38,8 +38,8 @@ pub struct Position {
 // The new label of one position in `words`, or NO_ROOM. `a` and `b` are for the work between.
 fn new_label(
     held: &Words,
-    at: &[u32; PLACES],
-    masks: &[u32; PLACES],
+    at: &[u32; CAPACITY],
+    masks: &[u32; CAPACITY],
     n: usize,
     q: Position,
     cs: Constraints,
@@ -57,12 +57,12 @@ fn new_label(
     let p = q.number;
     let c = q.constraint;
     let m = step::step_set(held, masks, n, p, q.begins, c, words);
-    if PLACES < m {
+    if CAPACITY < m {
         return NO_ROOM;
     }
     let k = skip::label(held, at, n, p as u32, a);
     let j = skip::skip_through(a, b, k, cs, count);
-    if PLACES < j {
+    if CAPACITY < j {
         return NO_ROOM;
     }
     if q.follows == 0 {
@@ -84,7 +84,7 @@ fn append_label(
     ensures { λ r. ⌜ heldGrown r (now («next_at» .exit)) (now (next .exit)) ≡ appended p
         (heldIn total (now («next_at» .entry)) (now (next .entry))) (Grown.grown (take m (disjunctsIn (now (label .entry))))) ⌝ }
 {
-    if PLACES < total + m {
+    if CAPACITY < total + m {
         return NO_ROOM;
     }
     sets::append(label, m, next, total);
@@ -99,8 +99,8 @@ fn append_label(
 // The new label of one position behind what is held so far, or NO_ROOM.
 fn add_label(
     held: &Words,
-    at: &[u32; PLACES],
-    masks: &[u32; PLACES],
+    at: &[u32; CAPACITY],
+    masks: &[u32; CAPACITY],
     n: usize,
     q: Position,
     cs: Constraints,
@@ -109,7 +109,7 @@ fn add_label(
     a: &mut Words,
     b: &mut Words,
     next: &mut Words,
-    next_at: &mut [u32; PLACES],
+    next_at: &mut [u32; CAPACITY],
     total: usize,
 ) -> usize
     requires { ⌜ (n ≤ heldLimit) × (count ≤ symbolLimit) × (q .number ≤ occurrenceLimit) × Ready (q .constraint)
@@ -122,7 +122,7 @@ fn add_label(
 {
     let p = q.number as u32;
     let m = new_label(held, at, masks, n, q, cs, count, words, a, b);
-    if PLACES < m {
+    if CAPACITY < m {
         return NO_ROOM;
     }
     append_label(words, m, p, next, next_at, total)
@@ -133,11 +133,11 @@ pub fn advance(
     book: Book,
     cs: Constraints,
     held: &Words,
-    at: &[u32; PLACES],
-    masks: &[u32; PLACES],
+    at: &[u32; CAPACITY],
+    masks: &[u32; CAPACITY],
     n: usize,
     next: &mut Words,
-    next_at: &mut [u32; PLACES],
+    next_at: &mut [u32; CAPACITY],
 ) -> usize
     requires { ⌜ (n ≤ heldLimit) × Counts book × (soundBook (viewBook book) ≡ true)
         × (soundHeld (wideBook (viewBook book)) (heldIn n (now at) (now held)) ≡ true)
@@ -178,7 +178,7 @@ pub fn advance(
             next_at,
             total,
         );
-        if PLACES < total {
+        if CAPACITY < total {
             return NO_ROOM;
         }
         i += 1;

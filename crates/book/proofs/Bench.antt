@@ -36,16 +36,16 @@ use Rattle.table.specs.Tables.{namesLimit, tableOf as heldTable, symbolOf, view
 use Rattle.table.proofs.Codes.{Fits, view-table}
 use Rattle.book.specs.Answers.{numberOf, placeOf, answerOf}
 use Rattle.book.specs.Books.{emptyBook, readingFor, bookFor, reading, viewBook, namePlace, nameBytes}
-use Rattle.book.specs.declared.Answer.{Answer}
+use Rattle.book.specs.declared.ReadingAnswer.{ReadingAnswer}
 use Rattle.book.specs.declared.Reading.{Reading}
 
 -- the enum keeps number and place, where the place is the fixed one of the two answers that have none
 module _ (n p : ℕ) where
-  abbrev Kept : Answer → Type 0
+  abbrev Kept : ReadingAnswer → Type 0
   Kept a = (numberOf a ≡ n) × (placeOf a ≡ p)
 
   -- one test of the chain: the number is k, or it is above k
-  kept-by : (a : Answer) (k : ℕ) (b : Answer) → k ≤ n → (n ≡ k → Kept a) → (k < n → Kept b) → Kept (cond (eqb n k) a b)
+  kept-by : (a : ReadingAnswer) (k : ℕ) (b : ReadingAnswer) → k ≤ n → (n ≡ k → Kept a) → (k < n → Kept b) → Kept (cond (eqb n k) a b)
   kept-by a k b l f g = either Kept (eqb n k) (λ e. f (eqb-true n k e)) λ e. let d = eqb-false n k e in g (omega arith)
 
   kept : n ≤ 8 → (n ≡ 0 → 0 ≡ p) → (n ≡ 1 → textLimit ≡ p) → Kept (answerOf n p)
@@ -92,7 +92,7 @@ pub empty-book : (s : Bytes) → (numberOf (reading s .answer) ≡ 0 → ⊥)
       variables = 0;
       symbols = 0;
       names = replicate namesLimit (record { start = 0; size = 0 });
-      table = replicate symbolLimit (record { kind = 0; count = 0; places = replicate parameterLimit (record { tag = 0; number = 0 }) });
+      table = replicate symbolLimit (record { kind = 0; count = 0; parameters = replicate parameterLimit (record { tag = 0; number = 0 }) });
       positions = 0;
       occurrences = replicate occurrenceLimit 0;
       begins = 0;
@@ -104,9 +104,9 @@ unfolding emptyBook heldTable symbolOf pad
 empty-book s h = refusal-book s h .0
 
 -- lines that say something in form have few argument places
-few-places : (v : ℕ) (l : List Symbol) → all (soundSymbol v) l ≡ true → all (λ y. leb (length (y .places)) 4) l ≡ true
+few-parameters : (v : ℕ) (l : List Symbol) → all (soundSymbol v) l ≡ true → all (λ y. leb (length (y .parameters)) 4) l ≡ true
 unfolding soundSymbol
-few-places v l h = all-of _ l λ y m. simp and-eq-true-iff at (all-at (soundSymbol v) h m) .0 .1
+few-parameters v l h = all-of _ l λ y m. simp and-eq-true-iff at (all-at (soundSymbol v) h m) .0 .1
 
 module _ (s : Bytes) where
   -- the table of a text in form
@@ -122,7 +122,7 @@ module _ (s : Bytes) where
         fewVariables = rw e (h .fewVariables);
         fewSymbols = rw length-map (h .fewSymbols);
         paired = sym (length-map (t .symbols) (bytesAt s)) ∙ ap length b ∙ simp length-map;
-        fewPlaces = few-places (length (d .variables)) (t .table) (Accepted.form-proper s d r f .symbols);
+        fewParameters = few-parameters (length (d .variables)) (t .table) (Accepted.form-proper s d r f .symbols);
       } in
       (e, view-table t g)
 

@@ -3,11 +3,11 @@ use mathlib.Core.Bool.{cond}
 use Prim.Native.Nat.{ℕ}
 use lib.Dec.{eqb}
 use Rattle.form.specs.Limits.{textLimit}
-use Rattle.book.specs.declared.Answer.{Answer}
-use Rattle.book.specs.declared.Answer.the-variants.{Accepted, TooLong, BadLine, AboveLimit, Redeclared, Undeclared, BadPattern, EmptyWord, Unbound}
+use Rattle.book.specs.declared.ReadingAnswer.{ReadingAnswer}
+use Rattle.book.specs.declared.ReadingAnswer.the-variants.{Accepted, TooLong, BadLine, AboveLimit, Redeclared, Undeclared, BadPattern, EmptyWord, Unbound}
 
 -- the number in the table of document 01, "What a call hands back"
-abbrev pub numberOf : Answer → ℕ
+abbrev pub numberOf : ReadingAnswer → ℕ
 numberOf Accepted = 0
 numberOf TooLong = 1
 numberOf (BadLine p) = 2
@@ -19,7 +19,7 @@ numberOf (EmptyWord p) = 7
 numberOf (Unbound p) = 8
 
 -- the place beside it; an accepted text has none, which counts as 0
-abbrev pub placeOf : Answer → ℕ
+abbrev pub placeOf : ReadingAnswer → ℕ
 placeOf Accepted = 0
 placeOf TooLong = textLimit
 placeOf (BadLine p) = p
@@ -31,7 +31,7 @@ placeOf (EmptyWord p) = p
 placeOf (Unbound p) = p
 
 -- the answer with a number and a place
-unfoldable pub answerOf : (number place : ℕ) → Answer
+unfoldable pub answerOf : (number place : ℕ) → ReadingAnswer
 answerOf n p =
     cond (eqb n 0) Accepted
     (cond (eqb n 1) TooLong

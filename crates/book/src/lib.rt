@@ -26,7 +26,7 @@ pub struct Book {
 }
 
 // The answers 0 to 8 of document 01; a place is the first byte of the offending word or token.
-pub enum Answer {
+pub enum ReadingAnswer {
     Accepted,
     TooLong,
     BadLine(usize),
@@ -40,7 +40,7 @@ pub enum Answer {
 
 // What a reading hands back: the answer, the book, and the counts of its beginning and ending positions.
 pub struct Reading {
-    pub answer: Answer,
+    pub answer: ReadingAnswer,
     pub book: Book,
     pub begin_count: u32,
     pub end_count: u32,
@@ -78,19 +78,19 @@ pub fn empty_book() -> Book
 }
 
 // The answer with a number and a place.
-pub fn answer_of(fault: usize, place: usize) -> Answer
+pub fn answer_of(fault: usize, place: usize) -> ReadingAnswer
     ensures { λ r. ⌜ r ≡ answerOf fault place ⌝ }
 {
     match fault {
-        0 => Answer::Accepted,
-        1 => Answer::TooLong,
-        2 => Answer::BadLine(place),
-        3 => Answer::AboveLimit(place),
-        4 => Answer::Redeclared(place),
-        5 => Answer::Undeclared(place),
-        6 => Answer::BadPattern(place),
-        7 => Answer::EmptyWord(place),
-        _ => Answer::Unbound(place),
+        0 => ReadingAnswer::Accepted,
+        1 => ReadingAnswer::TooLong,
+        2 => ReadingAnswer::BadLine(place),
+        3 => ReadingAnswer::AboveLimit(place),
+        4 => ReadingAnswer::Redeclared(place),
+        5 => ReadingAnswer::Undeclared(place),
+        6 => ReadingAnswer::BadPattern(place),
+        7 => ReadingAnswer::EmptyWord(place),
+        _ => ReadingAnswer::Unbound(place),
     }
 }
 
@@ -109,35 +109,35 @@ pub fn refused(fault: usize, place: usize) -> Reading
 }
 
 // Document 01's number of an answer.
-pub fn number_of(a: Answer) -> usize
+pub fn number_of(a: ReadingAnswer) -> usize
     ensures { λ r. ⌜ r ≡ numberOf a ⌝ }
 {
     match a {
-        Answer::Accepted => 0,
-        Answer::TooLong => 1,
-        Answer::BadLine(_) => 2,
-        Answer::AboveLimit(_) => 3,
-        Answer::Redeclared(_) => 4,
-        Answer::Undeclared(_) => 5,
-        Answer::BadPattern(_) => 6,
-        Answer::EmptyWord(_) => 7,
-        Answer::Unbound(_) => 8,
+        ReadingAnswer::Accepted => 0,
+        ReadingAnswer::TooLong => 1,
+        ReadingAnswer::BadLine(_) => 2,
+        ReadingAnswer::AboveLimit(_) => 3,
+        ReadingAnswer::Redeclared(_) => 4,
+        ReadingAnswer::Undeclared(_) => 5,
+        ReadingAnswer::BadPattern(_) => 6,
+        ReadingAnswer::EmptyWord(_) => 7,
+        ReadingAnswer::Unbound(_) => 8,
     }
 }
 
 // The place beside it.
-pub fn place_of(a: Answer) -> usize
+pub fn place_of(a: ReadingAnswer) -> usize
     ensures { λ r. ⌜ r ≡ placeOf a ⌝ }
 {
     match a {
-        Answer::Accepted => 0,
-        Answer::TooLong => TEXT_LIMIT,
-        Answer::BadLine(p) => p,
-        Answer::AboveLimit(p) => p,
-        Answer::Redeclared(p) => p,
-        Answer::Undeclared(p) => p,
-        Answer::BadPattern(p) => p,
-        Answer::EmptyWord(p) => p,
-        Answer::Unbound(p) => p,
+        ReadingAnswer::Accepted => 0,
+        ReadingAnswer::TooLong => TEXT_LIMIT,
+        ReadingAnswer::BadLine(p) => p,
+        ReadingAnswer::AboveLimit(p) => p,
+        ReadingAnswer::Redeclared(p) => p,
+        ReadingAnswer::Undeclared(p) => p,
+        ReadingAnswer::BadPattern(p) => p,
+        ReadingAnswer::EmptyWord(p) => p,
+        ReadingAnswer::Unbound(p) => p,
     }
 }

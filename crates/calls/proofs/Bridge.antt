@@ -28,7 +28,7 @@ use Rattle.form.specs.Limits.{textLimit}
 use Rattle.form.specs.Form.{Form}
 use Rattle.form.proofs.Accepted.{form-proper}
 use Rattle.form.specs.Lines.{declaredTable}
-use Rattle.table.specs.Tables.{placeOf, symbolOf, tableOf}
+use Rattle.table.specs.Tables.{parameterOf, symbolOf, tableOf}
 use Rattle.record.specs.Records.{isRecord, eventIn}
 use Rattle.book.specs.declared.Book.{Book}
 use Rattle.book.specs.Books.{reading, viewBook, bookFor}
@@ -50,15 +50,15 @@ pub record Read (b : Book) (tm : Tracematch) : Type 0 where
   pub sound : bookSound b ≡ true
 
 -- the counts and tags of the struct are in range
-place-tag : (p : Events.Place) → leb (placeOf p .tag) 1 ≡ true
-place-tag Events.Place.ignored = refl
-place-tag (Events.Place.names v) = refl
+parameter-tag : (p : Events.Parameter) → leb (parameterOf p .tag) 1 ≡ true
+parameter-tag Events.Parameter.ignored = refl
+parameter-tag (Events.Parameter.names v) = refl
 
 symbol-counts : (n : ℕ) (y : Events.Symbol) → soundSymbol n y ≡ true → symbolCounts (symbolOf y) ≡ true
 unfolding symbolCounts symbolOf soundSymbol
 symbol-counts n y h =
-    let few : leb (length (y .places)) 4 ≡ true = simp and-eq-true-iff at h .0 .1 in
-    rw (few, taken-back, all-map) (all-of _ (y .places) λ p m. place-tag p)
+    let few : leb (length (y .parameters)) 4 ≡ true = simp and-eq-true-iff at h .0 .1 in
+    rw (few, taken-back, all-map) (all-of _ (y .parameters) λ p m. parameter-tag p)
 
 module _ (text : Bytes) (d : Declarations) (r : Regex) (f : Form text d r) where
   names-placed : let b = reading text .book in all namePlaced (take (b .variables + b .symbols) (b .names)) ≡ true

@@ -21,9 +21,9 @@ declared =
     record {
       variables = ascii "d" ∷ ascii "s" ∷ [];
       symbols =
-          record { name = ascii "load"; kind = 1; places = names 0 ∷ names 1 ∷ [] }
-          ∷ record { name = ascii "drop"; kind = 2; places = names 0 ∷ [] }
-          ∷ record { name = ascii "clean"; kind = 3; places = names 0 ∷ [] }
+          record { name = ascii "load"; kind = 1; parameters = names 0 ∷ names 1 ∷ [] }
+          ∷ record { name = ascii "drop"; kind = 2; parameters = names 0 ∷ [] }
+          ∷ record { name = ascii "clean"; kind = 3; parameters = names 0 ∷ [] }
           ∷ [];
     }
 

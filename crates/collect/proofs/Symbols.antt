@@ -18,9 +18,9 @@ use Rattle.meaning.specs.Meaning.{noSymbol}
 use Rattle.meaning.specs.Book.{soundBook, followers, symbolOf}
 use Rattle.meaning.specs.Labels.{Disjunct}
 use Rattle.meaning.specs.Rows.{rows}
-use Rattle.work.specs.Wide.{wideBook}
-use Rattle.work.specs.Bounded.{pick, withStart, rowLimit, rowsWith, freeIn, freeRows}
-use Rattle.work.proofs.RowSets.{ending, rowsFrom, from-full, from-none, from-next, from-all, freeFrom, free-end, free-next, free-all}
+use Rattle.bounded.specs.Wide.{wideBook}
+use Rattle.bounded.specs.Bounded.{pick, withStart, rowLimit, rowsWith, freeIn, freeRows}
+use Rattle.bounded.proofs.RowSets.{ending, rowsFrom, from-full, from-none, from-next, collected-rows, freeFrom, free-end, free-next, free-all}
 use Rattle.constraint.specs.declared.Constraint.{Constraint}
 use Rattle.constraint.specs.Constraints.{viewConstraint, noConstraint}
 use Rattle.sets.specs.Sets.{disjunctsIn}
@@ -63,7 +63,7 @@ module _ (b : Book) (n : ℕ) (at held : List ℕ) (e : Events.Event) where
 
   pub rows-first : rowsAhead 0 (grown []) ≡ within rowLimit (rows (wideBook (viewBook b)) (heldIn n at held) e)
   unfolding rowsAhead heldIn
-  rows-first = from-all (viewBook b) (take n at) (take n (disjunctsIn held)) e
+  rows-first = collected-rows (viewBook b) (take n at) (take n (disjunctsIn held)) e
 
   pub rows-over : (i : ℕ) → rowsAhead i full ≡ full
   unfolding rowsAhead

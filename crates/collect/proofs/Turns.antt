@@ -16,9 +16,9 @@ use Rattle.laws.proofs.Lists.{taken-none}
 use Rattle.meaning.specs.Events.{Constraint, Valuation}
 use Rattle.meaning.specs.Labels.{Disjunct, freeDisjunct}
 use Rattle.meaning.specs.Rows.{compareValuations}
-use Rattle.work.specs.Bounded.{pick, withStart, rowLimit, rowsWith, freeIn}
-use Rattle.work.proofs.Picks.{pick-next}
-use Rattle.work.proofs.RowSets.{rows-append, rows-full, rows-ascending, free-append}
+use Rattle.bounded.specs.Bounded.{pick, withStart, rowLimit, rowsWith, freeIn}
+use Rattle.bounded.proofs.Picks.{pick-next}
+use Rattle.bounded.proofs.RowSets.{rows-append, rows-full, rows-ascending, free-append}
 use Rattle.rows.specs.Valuations.{valuationsIn, rowsGrown}
 use Rattle.rows.proofs.Valuations.{in-grown, in-full}
 

@@ -6,7 +6,7 @@ use constraint::Constraints;
 use disjunct::Disjunct;
 use rows::NO_ROOM;
 use rows::ROWS;
-use sets::PLACES;
+use sets::CAPACITY;
 use sets::Words;
 ghost use mathlib.Core.Path.{_≡_};
 ghost use mathlib.Core.Bool.{true, cond};
@@ -22,8 +22,8 @@ ghost use Rattle.meaning.specs.Book.{soundBook, followers};
 ghost use Rattle.meaning.specs.Room.{heldLimit};
 ghost use Rattle.meaning.specs.Rows.{compareValuations, rows};
 ghost use Rattle.meaning.specs.Limits.{variableLimit};
-ghost use Rattle.work.specs.Wide.{wideBook};
-ghost use Rattle.work.specs.Bounded.{pick, withStart, rowLimit, rowsWith, freeIn, freeRows};
+ghost use Rattle.bounded.specs.Wide.{wideBook};
+ghost use Rattle.bounded.specs.Bounded.{pick, withStart, rowLimit, rowsWith, freeIn, freeRows};
 ghost use Rattle.constraint.specs.Constraints.{viewConstraint, noConstraint, Ready};
 ghost use Rattle.disjunct.specs.Disjuncts.{viewDisjunct};
 ghost use Rattle.sets.specs.Sets.{disjunctsIn};
@@ -48,7 +48,7 @@ fn add_row(out: &mut rows::Words, m: usize, d: Disjunct, c: Constraint) -> usize
 // The rows of one ending position q put among the first m: how many there are then, or 2,065.
 fn rows_at(
     held: &Words,
-    masks: &[u32; PLACES],
+    masks: &[u32; CAPACITY],
     n: usize,
     q: usize,
     begins: bool,
@@ -86,7 +86,7 @@ fn rows_at(
 // The same for any position q: none where it does not end a word. A false constraint gives none either.
 fn rows_of(
     held: &Words,
-    masks: &[u32; PLACES],
+    masks: &[u32; CAPACITY],
     n: usize,
     q: usize,
     begins: u32,
@@ -113,8 +113,8 @@ pub fn collect(
     book: Book,
     cs: Constraints,
     held: &Words,
-    at: &[u32; PLACES],
-    masks: &[u32; PLACES],
+    at: &[u32; CAPACITY],
+    masks: &[u32; CAPACITY],
     n: usize,
     out: &mut rows::Words,
 ) -> usize
@@ -154,7 +154,7 @@ fn free_met(d: Disjunct, c: Constraint, v: usize) -> bool
 // The same for the sources of one ending position q.
 fn free_at(
     held: &Words,
-    masks: &[u32; PLACES],
+    masks: &[u32; CAPACITY],
     n: usize,
     q: usize,
     begins: bool,
@@ -186,7 +186,7 @@ fn free_at(
 // The same for any position q.
 fn free_of(
     held: &Words,
-    masks: &[u32; PLACES],
+    masks: &[u32; CAPACITY],
     n: usize,
     q: usize,
     begins: u32,
@@ -210,8 +210,8 @@ pub fn leaves_free(
     book: Book,
     cs: Constraints,
     held: &Words,
-    at: &[u32; PLACES],
-    masks: &[u32; PLACES],
+    at: &[u32; CAPACITY],
+    masks: &[u32; CAPACITY],
     n: usize,
 ) -> bool
     requires { ⌜ (n ≤ heldLimit) × Counts book × (soundBook (viewBook book) ≡ true)

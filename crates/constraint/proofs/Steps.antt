@@ -15,10 +15,10 @@ use lib.Seq.{length-take-le, take-suc, take-suc-set, getD-set-same, getD-set-oth
 use Rattle.laws.specs.Lists.{all}
 use Rattle.laws.proofs.Lists.{and-true-split, all-taken}
 use Rattle.meaning.specs.Events as Events
-use Rattle.meaning.specs.Book.{soundPlace}
-use Rattle.table.specs.declared.Place.{Place}
+use Rattle.meaning.specs.Book.{soundParameter}
+use Rattle.table.specs.declared.Parameter.{Parameter}
 use Rattle.table.specs.declared.Symbol.{Symbol}
-use Rattle.table.specs.Tables.{viewPlace, viewSymbol}
+use Rattle.table.specs.Tables.{viewParameter, viewSymbol}
 use Rattle.table.proofs.Spans.{ahead, ahead-none, ahead-cons}
 use Rattle.record.specs.declared.Event.{Event}
 use Rattle.record.specs.Records.{viewEvent}
@@ -28,27 +28,27 @@ use Rattle.constraint.specs.Constraints.{viewDemand, demandsIn, viewCons
 use Rattle.constraint.proofs.Views.{emptyDemand, demand-at, demands-next, demands-end}
 
 -- the counts are the lengths of what is counted
-pub matches-counts : (y : Symbol) (e : Event) → length (y .places) ≡ 4 → y .count ≤ 4 → length (e .args) ≡ 4 → e .count ≤ 4
+pub matches-counts : (y : Symbol) (e : Event) → length (y .parameters) ≡ 4 → y .count ≤ 4 → length (e .args) ≡ 4 → e .count ≤ 4
     → Events.matches (viewSymbol y) (viewEvent e) ≡ (eqb (y .kind) (e .kind) && eqb (y .count) (e .count))
 unfolding Events.matches viewSymbol viewEvent
 matches-counts y e l h m k =
-    let t = take (y .count) (y .places) in
-    let a : length (map viewPlace t) ≡ y .count = length-map t viewPlace ∙ length-take-le (y .count) (y .places) (omega arith) in
+    let t = take (y .count) (y .parameters) in
+    let a : length (map viewParameter t) ≡ y .count = length-map t viewParameter ∙ length-take-le (y .count) (y .parameters) (omega arith) in
     let b : length (take (e .count) (e .args)) ≡ e .count = length-take-le (e .count) (e .args) (omega arith) in
     rw (a, b)
 
 -- sound places demand something only of the variables that there are
-demand-within : (k : ℕ) (p : Events.Place) (x : ℕ) (r : List Events.Demand) → soundPlace k p ≡ true → all (λ d. ltb (d .variable) k) r ≡ true
+demand-within : (k : ℕ) (p : Events.Parameter) (x : ℕ) (r : List Events.Demand) → soundParameter k p ≡ true → all (λ d. ltb (d .variable) k) r ≡ true
     → all (λ d. ltb (d .variable) k) (Events.demandOf p x ++ r) ≡ true
-demand-within k Events.Place.ignored x r s h = h
-demand-within k (Events.Place.names v) x r s h = ap₂ _&&_ s h
+demand-within k Events.Parameter.ignored x r s h = h
+demand-within k (Events.Parameter.names v) x r s h = ap₂ _&&_ s h
 
-demands-within : (k : ℕ) (ps : List Events.Place) (xs : List ℕ) → all (soundPlace k) ps ≡ true
+demands-within : (k : ℕ) (ps : List Events.Parameter) (xs : List ℕ) → all (soundParameter k) ps ≡ true
     → all (λ d. ltb (d .variable) k) (Events.demandsOf ps xs) ≡ true
 demands-within k [] xs h = refl
 demands-within k (p ∷ ps) [] h = refl
 demands-within k (p ∷ ps) (x ∷ xs) h =
-    let s = and-true-split (soundPlace k p) (all (soundPlace k) ps) h in
+    let s = and-true-split (soundParameter k p) (all (soundParameter k) ps) h in
     demand-within k p x (Events.demandsOf ps xs) (s .0) (demands-within k ps xs (s .1))
 
 -- what the tests of the code say of two demands
@@ -89,39 +89,39 @@ module _ (c : Constraint) (l : length (c .demands) ≡ 4) (few : c .count ≤ 4)
   consistent-none i h = ap Events.consistent (demands-end c i h)
 
 -- what the tag of a place says
-named : (p : Place) → p .tag ≡ 1 → viewPlace p ≡ Events.Place.names (p .number)
-named p h = ap (λ b. cond b (Events.Place.names (p .number)) Events.Place.ignored) (eq-eqb (p .tag) 1 h)
+named : (p : Parameter) → p .tag ≡ 1 → viewParameter p ≡ Events.Parameter.names (p .number)
+named p h = ap (λ b. cond b (Events.Parameter.names (p .number)) Events.Parameter.ignored) (eq-eqb (p .tag) 1 h)
 
-unnamed : (p : Place) → (p .tag ≡ 1 → ⊥) → viewPlace p ≡ Events.Place.ignored
-unnamed p h = ap (λ b. cond b (Events.Place.names (p .number)) Events.Place.ignored) (ne-eqb (p .tag) 1 h)
+unnamed : (p : Parameter) → (p .tag ≡ 1 → ⊥) → viewParameter p ≡ Events.Parameter.ignored
+unnamed p h = ap (λ b. cond b (Events.Parameter.names (p .number)) Events.Parameter.ignored) (ne-eqb (p .tag) 1 h)
 
 -- the place number i of a symbol
-abbrev pub placeAt : Symbol → ℕ → Place
-placeAt y i = getD (y .places) i (record { tag = 0; number = 0 })
+abbrev pub parameterAt : Symbol → ℕ → Parameter
+parameterAt y i = getD (y .parameters) i (record { tag = 0; number = 0 })
 
 -- what the counted places from number i on demand
 abbrev pub restOf : Symbol → Event → ℕ → List Events.Demand
-restOf y e i = Events.demandsOf (ahead viewPlace (y .places) i (y .count)) (slice i (y .count) (e .args))
+restOf y e i = Events.demandsOf (ahead viewParameter (y .parameters) i (y .count)) (slice i (y .count) (e .args))
 
 -- the first m of the demands l are those of the first i places
 pub record Gathered (y : Symbol) (e : Event) (m i : ℕ) (l : List Demand) : Type 0 where
   pub few : m ≤ i
   pub long : length l ≡ 4
-  pub whole : map viewDemand (take m l) ++ restOf y e i ≡ Events.demandsOf (viewSymbol y .places) (viewEvent e .args)
+  pub whole : map viewDemand (take m l) ++ restOf y e i ≡ Events.demandsOf (viewSymbol y .parameters) (viewEvent e .args)
 
 module _ (y : Symbol) (e : Event) (few : y .count ≤ 4) where
   pub gathered-none : {l : List Demand} → e .count ≡ y .count → length l ≡ 4 → Gathered y e 0 0 l
   unfolding viewSymbol viewEvent
   gathered-none h k = record { few = omega arith; long = k; whole = rw (sub-zero, h) }
 
-  module _ {m i : ℕ} {l : List Demand} (h : i < y .count) (k : length (y .places) ≡ 4) (j : length (e .args) ≡ 4) (g : Gathered y e m i l) where
-    rest-next : (p : Events.Place) → viewPlace (placeAt y i) ≡ p → restOf y e i ≡ Events.demandOf p (getD (e .args) i 0) ++ restOf y e (i + 1)
+  module _ {m i : ℕ} {l : List Demand} (h : i < y .count) (k : length (y .parameters) ≡ 4) (j : length (e .args) ≡ 4) (g : Gathered y e m i l) where
+    rest-next : (p : Events.Parameter) → viewParameter (parameterAt y i) ≡ p → restOf y e i ≡ Events.demandOf p (getD (e .args) i 0) ++ restOf y e (i + 1)
     rest-next p q =
-        let a = ahead-cons viewPlace (y .places) i (y .count) (record { tag = 0; number = 0 }) h (omega arith) in
+        let a = ahead-cons viewParameter (y .parameters) i (y .count) (record { tag = 0; number = 0 }) h (omega arith) in
         let b = slice-cons i (y .count) (e .args) 0 h (omega arith) in
         rw (a, b, q, add-one i)
 
-    pub gathered-skip : (placeAt y i .tag ≡ 1 → ⊥) → Gathered y e m (i + 1) l
+    pub gathered-skip : (parameterAt y i .tag ≡ 1 → ⊥) → Gathered y e m (i + 1) l
     gathered-skip n =
         record {
           few = omega arith;
@@ -129,10 +129,10 @@ module _ (y : Symbol) (e : Event) (few : y .count ≤ 4) where
           whole = ap (λ r. map viewDemand (take m l) ++ r) (sym (rest-next _ (unnamed _ n))) ∙ g .whole;
         }
 
-    pub gathered-more : placeAt y i .tag ≡ 1
-        → Gathered y e (m + 1) (i + 1) (set l m (record { variable = placeAt y i .number; value = getD (e .args) i 0 }))
+    pub gathered-more : parameterAt y i .tag ≡ 1
+        → Gathered y e (m + 1) (i + 1) (set l m (record { variable = parameterAt y i .number; value = getD (e .args) i 0 }))
     gathered-more n =
-        let d : Demand = record { variable = placeAt y i .number; value = getD (e .args) i 0 } in
+        let d : Demand = record { variable = parameterAt y i .number; value = getD (e .args) i 0 } in
         let a : map viewDemand (take (m + 1) (set l m d)) ≡ map viewDemand (take m l) ++ (viewDemand d ∷ []) =
         rw (add-one m, take-suc-set l m d (omega arith), map-append) in
         record {
@@ -142,35 +142,35 @@ module _ (y : Symbol) (e : Event) (few : y .count ≤ 4) where
         }
 
   -- when no place is left the demands are gathered, and they are ready where the places are sound
-  pub gathered-all : (b : Bool) {m i : ℕ} {l : List Demand} → all (soundPlace 4) (viewSymbol y .places) ≡ true → i ≤ y .count → y .count ≤ i
+  pub gathered-all : (b : Bool) {m i : ℕ} {l : List Demand} → all (soundParameter 4) (viewSymbol y .parameters) ≡ true → i ≤ y .count → y .count ≤ i
       → Gathered y e m i l → let r : Constraint = record { ok = b; count = m; demands = l } in
-      (demandsIn r ≡ Events.demandsOf (viewSymbol y .places) (viewEvent e .args)) × Ready r
+      (demandsIn r ≡ Events.demandsOf (viewSymbol y .parameters) (viewEvent e .args)) × Ready r
   unfolding demandsIn
   gathered-all b {m} {i} {l} s u v g =
-      let z : restOf y e i ≡ [] = rw (ahead-none viewPlace (y .places) i (y .count) v) in
-      let w : map viewDemand (take m l) ≡ Events.demandsOf (viewSymbol y .places) (viewEvent e .args) =
+      let z : restOf y e i ≡ [] = rw (ahead-none viewParameter (y .parameters) i (y .count) v) in
+      let w : map viewDemand (take m l) ≡ Events.demandsOf (viewSymbol y .parameters) (viewEvent e .args) =
       sym (append-nil _) ∙ ap (λ r. map viewDemand (take m l) ++ r) (sym z) ∙ g .whole in
-      (w, record { few = omega arith; within = rw w (demands-within 4 (viewSymbol y .places) (viewEvent e .args) s) })
+      (w, record { few = omega arith; within = rw w (demands-within 4 (viewSymbol y .parameters) (viewEvent e .args) s) })
 
 -- the constraint, by the answers of both tests
 pub constraint-by : (s : Events.Symbol) (e : Events.Event) {a b : Bool} → Events.matches s e ≡ a
-    → Events.consistent (Events.demandsOf (s .places) (e .args)) ≡ b
-    → Events.constraintOf s e ≡ cond (a && b) (Events.Constraint.demands (Events.demandsOf (s .places) (e .args))) Events.Constraint.never
+    → Events.consistent (Events.demandsOf (s .parameters) (e .args)) ≡ b
+    → Events.constraintOf s e ≡ cond (a && b) (Events.Constraint.demands (Events.demandsOf (s .parameters) (e .args))) Events.Constraint.never
 unfolding Events.constraintOf
 constraint-by s e h k =
-    ap₂ (λ a b. cond (a && b) (Events.Constraint.demands (Events.demandsOf (s .places) (e .args))) Events.Constraint.never) h k
+    ap₂ (λ a b. cond (a && b) (Events.Constraint.demands (Events.demandsOf (s .parameters) (e .args))) Events.Constraint.never) h k
 
 -- the symbol number i of a table
 abbrev pub symbolAt : List Symbol → ℕ → Symbol
-symbolAt table i = getD table i (record { kind = 0; count = 0; places = [] })
+symbolAt table i = getD table i (record { kind = 0; count = 0; parameters = [] })
 
 -- it is within the limits where the first n are
 pub within-at : (table : List Symbol) (n i : ℕ) → n ≤ length table → i < n
-    → all (λ y. leb (y .count) 4 && all (soundPlace 4) (viewSymbol y .places)) (take n table) ≡ true
-    → (symbolAt table i .count ≤ 4) × (all (soundPlace 4) (viewSymbol (symbolAt table i) .places) ≡ true)
+    → all (λ y. leb (y .count) 4 && all (soundParameter 4) (viewSymbol y .parameters)) (take n table) ≡ true
+    → (symbolAt table i .count ≤ 4) × (all (soundParameter 4) (viewSymbol (symbolAt table i) .parameters) ≡ true)
 within-at table n i l h a =
-    let f : Symbol → Bool = λ y. leb (y .count) 4 && all (soundPlace 4) (viewSymbol y .places) in
-    let d : Symbol = record { kind = 0; count = 0; places = [] } in
+    let f : Symbol → Bool = λ y. leb (y .count) 4 && all (soundParameter 4) (viewSymbol y .parameters) in
+    let d : Symbol = record { kind = 0; count = 0; parameters = [] } in
     let s = and-true-split _ _ (all-taken f n table i d a l h) in
     (leb-true _ 4 (s .0), s .1)
 
@@ -188,7 +188,7 @@ module _ {e : Event} {table : List Symbol} {r : List Constraint} where
       → viewConstraint x ≡ Events.constraintOf (viewSymbol (symbolAt table i)) (viewEvent e) → Ready x → Filled e table i r → Filled e table (i + 1) (set r i x)
   filled-more {i} {x} h k v y d =
       let l = d .long in
-      let t = take-suc table i (record { kind = 0; count = 0; places = [] }) k in
+      let t = take-suc table i (record { kind = 0; count = 0; parameters = [] }) k in
       record {
         long = length-set r i x ∙ l;
         views = rw (add-one i, take-suc-set r i x (omega arith), t, map-append viewConstraint (take i r), map-append, d .views, v);

@@ -11,7 +11,7 @@ ghost use lib.Dec.{leb};
 ghost use lib.ListN.{take, drop, getD};
 ghost use Rattle.laws.specs.Lists.{all};
 ghost use Rattle.meaning.specs.Events as Events;
-ghost use Rattle.meaning.specs.Book.{soundPlace};
+ghost use Rattle.meaning.specs.Book.{soundParameter};
 ghost use Rattle.meaning.specs.Limits.{variableLimit, symbolLimit, parameterLimit, argumentLimit};
 ghost use Rattle.table.specs.Tables.{viewSymbol};
 ghost use Rattle.record.specs.Records.{viewEvent};
@@ -57,8 +57,8 @@ pub fn never() -> Constraint
 
 // "variable equals argument" for each bound place among the first ones of both.
 fn demands(y: Symbol, e: Event) -> Constraint
-    requires { ⌜ (y .count ≤ parameterLimit) × (e .count ≡ y .count) × (all (soundPlace variableLimit) (viewSymbol y .places) ≡ true) ⌝ }
-    ensures { λ r. ⌜ (demandsIn r ≡ Events.demandsOf (viewSymbol y .places) (viewEvent e .args)) × (r .ok ≡ true) × Ready r ⌝ }
+    requires { ⌜ (y .count ≤ parameterLimit) × (e .count ≡ y .count) × (all (soundParameter variableLimit) (viewSymbol y .parameters) ≡ true) ⌝ }
+    ensures { λ r. ⌜ (demandsIn r ≡ Events.demandsOf (viewSymbol y .parameters) (viewEvent e .args)) × (r .ok ≡ true) × Ready r ⌝ }
 {
     let mut r = never();
     r.ok = true;
@@ -66,7 +66,7 @@ fn demands(y: Symbol, e: Event) -> Constraint
     let mut m: usize = 0;
     let mut i: usize = 0;
     while i < n {
-        let p = y.places[i];
+        let p = y.parameters[i];
         let x = e.args[i];
         if p.tag == 1 {
             let d = Demand {
@@ -118,7 +118,7 @@ fn consistent(c: Constraint) -> bool
 }
 
 pub fn constraint_of(y: Symbol, e: Event) -> Constraint
-    requires { ⌜ (y .count ≤ parameterLimit) × (e .count ≤ argumentLimit) × (all (soundPlace variableLimit) (viewSymbol y .places) ≡ true) ⌝ }
+    requires { ⌜ (y .count ≤ parameterLimit) × (e .count ≤ argumentLimit) × (all (soundParameter variableLimit) (viewSymbol y .parameters) ≡ true) ⌝ }
     ensures { λ r. ⌜ (viewConstraint r ≡ Events.constraintOf (viewSymbol y) (viewEvent e)) × Ready r ⌝ }
 {
     if matches(y, e) {
@@ -133,7 +133,7 @@ pub fn constraint_of(y: Symbol, e: Event) -> Constraint
 // The constraints of the first n symbols of a table.
 pub fn constraints(table: [Symbol; SYMBOLS], n: usize, e: Event) -> Constraints
     requires { ⌜ (n ≤ symbolLimit) × (e .count ≤ argumentLimit)
-        × (all (λ y. leb (y .count) parameterLimit && all (soundPlace variableLimit) (viewSymbol y .places)) (take n table) ≡ true) ⌝ }
+        × (all (λ y. leb (y .count) parameterLimit && all (soundParameter variableLimit) (viewSymbol y .parameters)) (take n table) ≡ true) ⌝ }
     ensures { λ r. ⌜ (map viewConstraint (take n r) ≡ map (λ y. Events.constraintOf (viewSymbol y) (viewEvent e)) (take n table))
         × ((i : ℕ) → i < n → Ready (getD r i noConstraint)) ⌝ }
 {

@@ -3,7 +3,7 @@
 use crate::amounts;
 use book::Book;
 use table::Name;
-use table::Place;
+use table::Parameter;
 use table::Symbol;
 
 pub fn damaged(b: Book, kind: u32, x: u64, y: u64) -> Book {
@@ -118,24 +118,24 @@ fn symbol(s: Symbol, kind: u32, x: u64, y: u64) -> Symbol {
         return r;
     }
     if s.count == 2 && y % 2 == 1 {
-        let p = s.places[1];
-        r.places[1] = argument(p, kind, x);
+        let p = s.parameters[1];
+        r.parameters[1] = argument(p, kind, x);
         return r;
     }
-    let p = s.places[0];
-    r.places[0] = argument(p, kind, x);
+    let p = s.parameters[0];
+    r.parameters[0] = argument(p, kind, x);
     r
 }
 
 // A tag, or the number of a variable, that is out of range.
-fn argument(p: Place, kind: u32, x: u64) -> Place {
+fn argument(p: Parameter, kind: u32, x: u64) -> Parameter {
     if kind == 13 {
-        return Place {
+        return Parameter {
             tag: amounts::above_short(2, x),
             number: p.number,
         };
     }
-    Place {
+    Parameter {
         tag: 1,
         number: amounts::above_short(2, x),
     }
@@ -144,7 +144,7 @@ fn argument(p: Place, kind: u32, x: u64) -> Place {
 // What no count reaches filled with x: names, symbols, their places, positions.
 pub fn spare(b: Book, x: u64) -> Book {
     let short = amounts::short(x);
-    let p = Place {
+    let p = Parameter {
         tag: short,
         number: short,
     };
@@ -191,11 +191,11 @@ fn named(a: [Name; 20], n: Name) -> [Name; 20] {
     r
 }
 
-fn symbols(a: [Symbol; 16], p: Place, x: u64) -> [Symbol; 16] {
+fn symbols(a: [Symbol; 16], p: Parameter, x: u64) -> [Symbol; 16] {
     let other = Symbol {
         kind: amounts::short(x),
         count: x as usize,
-        places: [p; 4],
+        parameters: [p; 4],
     };
     let first = a[0];
     let second = a[1];
@@ -208,12 +208,12 @@ fn symbols(a: [Symbol; 16], p: Place, x: u64) -> [Symbol; 16] {
 }
 
 // The places of a symbol beyond its one or two.
-fn places(s: Symbol, p: Place) -> Symbol {
+fn places(s: Symbol, p: Parameter) -> Symbol {
     let mut r = s;
-    r.places[2] = p;
-    r.places[3] = p;
+    r.parameters[2] = p;
+    r.parameters[3] = p;
     if s.count == 1 {
-        r.places[1] = p;
+        r.parameters[1] = p;
     }
     r
 }

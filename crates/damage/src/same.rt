@@ -4,7 +4,7 @@ use disjunct::Disjunct;
 use slot::Slot;
 use state::State;
 use table::Name;
-use table::Place;
+use table::Parameter;
 use table::Symbol;
 use tally::Tally;
 
@@ -88,8 +88,8 @@ fn symbols(a: Symbol, b: Symbol) -> bool {
     }
     let mut i: usize = 0;
     while i < 4 {
-        let x = a.places[i];
-        let y = b.places[i];
+        let x = a.parameters[i];
+        let y = b.parameters[i];
         if x.tag != y.tag || x.number != y.number {
             return false;
         }

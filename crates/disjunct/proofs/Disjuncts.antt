@@ -21,7 +21,7 @@ use Rattle.meaning.specs.Labels.{free, freeDisjunct}
 use Rattle.meaning.specs.Room.{fewExclusions}
 use Rattle.slot.specs.declared.Slot.{Slot}
 use Rattle.slot.specs.Slots.{viewSlot, slotOf}
-use Rattle.slot.proofs.Slots.{view-slot, few-places}
+use Rattle.slot.proofs.Slots.{view-slot, few-excluded}
 use Rattle.slot.proofs.Slot as slots
 use Rattle.disjunct.specs.declared.Disjunct.{Disjunct}
 use Rattle.disjunct.specs.declared.Met.{Met}
@@ -47,22 +47,22 @@ unfolding viewDisjunct
 view-length d h = length-map (d .vars) viewSlot ∙ h
 
 -- a slot with no more than six places for exclusions
-abbrev pub sixPlaces : Slot → Bool
-sixPlaces s = leb (length (s .excluded)) 6
+abbrev pub sixExclusions : Slot → Bool
+sixExclusions s = leb (length (s .excluded)) 6
 
-few-slots : (l : List Slot) → all sixPlaces l ≡ true → fewExclusions (map viewSlot l) ≡ true
+few-slots : (l : List Slot) → all sixExclusions l ≡ true → fewExclusions (map viewSlot l) ≡ true
 few-slots [] h = refl
 few-slots (s ∷ l) h =
-    let e = and-true-split (sixPlaces s) (all sixPlaces l) h in
-    ap₂ _&&_ (few-places s (leb-true _ _ (e .0))) (few-slots l (e .1))
+    let e = and-true-split (sixExclusions s) (all sixExclusions l) h in
+    ap₂ _&&_ (few-excluded s (leb-true _ _ (e .0))) (few-slots l (e .1))
 
-pub few-disjunct : (d : Disjunct) → all sixPlaces (d .vars) ≡ true → fewExclusions (viewDisjunct d) ≡ true
+pub few-disjunct : (d : Disjunct) → all sixExclusions (d .vars) ≡ true → fewExclusions (viewDisjunct d) ≡ true
 unfolding viewDisjunct
 few-disjunct d h = few-slots (d .vars) h
 
 -- what the type tells of an array of slots
 six-slots : (l : List Slot) (us : List Val)
-    → shadow (each (slots.the-field .row .Denot) (slots.the-field .row .own) (map (slots.the-field .into) l) us) → all sixPlaces l ≡ true
+    → shadow (each (slots.the-field .row .Denot) (slots.the-field .row .own) (map (slots.the-field .into) l) us) → all sixExclusions l ≡ true
 six-slots [] us h = refl
 six-slots (s ∷ l) [] h = absurd h
 six-slots (s ∷ l) (u ∷ us) h =
@@ -71,7 +71,7 @@ six-slots (s ∷ l) (u ∷ us) h =
 -- the arrays of a disjunct have their lengths
 pub record Sized (d : Disjunct) : Type 0 where
   pub four : length (d .vars) ≡ 4
-  pub six : all sixPlaces (d .vars) ≡ true
+  pub six : all sixExclusions (d .vars) ≡ true
 
 -- what the kit tells of a disjunct: a parameter's `c .good .0`, or what a call gives, `c .f .ok`
 pub sized : (d : Disjunct) {vs : List Val} → Is disjuncts.the-row d vs → Sized d

@@ -9,7 +9,7 @@ use borrow.Author.Tests.{eq-eqb, ne-eqb}
 use lib.Dec.{eqb}
 use lib.ListN.{length, length-append}
 use Rattle.laws.proofs.Lists.{either}
-use Rattle.meaning.specs.Events.{Place}
+use Rattle.meaning.specs.Events.{Parameter}
 use Rattle.form.specs.Text.{Bytes, isBytes, lf, varsWord, symWord, matchWord, Span}
 use Rattle.form.specs.Form.{sameWord}
 use Rattle.form.specs.Scan.{Step, go, fail, at, wordEnd, kindOf}
@@ -77,7 +77,7 @@ module _ (s : Bytes) (bytes : isBytes s ≡ true) where
     -- the course over arguments, with room for so many more
     abbrev ArgumentsCourse : ℕ → Type 0
     ArgumentsCourse room =
-        (ps : List Place) (p i : ℕ) → HeaderPrefix s p k i vs ss → 3 ≤ i → i + room ≡ 7 → ArgumentsProgress (argumentsFrom s vs room ps p)
+        (ps : List Parameter) (p i : ℕ) → HeaderPrefix s p k i vs ss → 3 ≤ i → i + room ≡ 7 → ArgumentsProgress (argumentsFrom s vs room ps p)
 
     arguments-none : ArgumentsCourse 0
     arguments-none ps p i c m r =
@@ -108,7 +108,7 @@ module _ (s : Bytes) (bytes : isBytes s ≡ true) where
     kind-ways : (x : Span) (p : ℕ) (others : ℕ → Arguments) → HeaderPrefix s p k 2 vs ss
         → ((q : ℕ) → HeaderPrefix s q k 3 vs ss → ArgumentsProgress (others q))
         → let w = wantWord s p in let e = wordEnd s (w .place) in let n = kindOf s (w .place) e in let r = others e in
-        let whole : SymbolRead = record { step = r .step; name = x; symbol = record { kind = n; places = r .places } } in
+        let whole : SymbolRead = record { step = r .step; name = x; symbol = record { kind = n; parameters = r .parameters } } in
         let some = cond (eqb (r .step .fault) 0) whole (noSymbolRead (r .step)) in
         let kinded = cond (eqb n 0) (noSymbolRead (fail 2 (w .place))) some in
         SymbolProgress x (cond (eqb (w .fault) 0) kinded (noSymbolRead w))

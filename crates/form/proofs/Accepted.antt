@@ -75,7 +75,7 @@ same-lines (x ∷ l) [] h k = absurd (nil≢cons (sym h))
 same-lines (x ∷ l) (y ∷ m) h k =
     let n : x .name ≡ y .name = cc in
     let o : symbolOf x ≡ symbolOf y = cc in
-    ap₂ _∷_ (λ i. record { name = n i; kind = o i .kind; places = o i .places }) (same-lines l m (cc) (cc))
+    ap₂ _∷_ (λ i. record { name = n i; kind = o i .kind; parameters = o i .parameters }) (same-lines l m (cc) (cc))
 
 -- the words of a text that declares d and writes r: the flag of the empty word, and the mask of bound variables
 module _ (s : Bytes) (d : Declarations) (r : Regex) (f : Found s d r) where

@@ -10,9 +10,9 @@ use lib.ListN.{length, getD, drop, length-append}
 use lib.Seq.{append-snoc}
 use Rattle.laws.specs.Lists.{all}
 use Rattle.laws.proofs.Lists.{and-true-split, all-at, mem-getD}
-use Rattle.meaning.specs.Events.{Place, ignored, names}
-use Rattle.meaning.specs.Book.{soundPlace}
-use Rattle.form.specs.Text.{Bytes, space, lf, isName, ignoredWord, Span, spaced, placeWord}
+use Rattle.meaning.specs.Events.{Parameter, ignored, names}
+use Rattle.meaning.specs.Book.{soundParameter}
+use Rattle.form.specs.Text.{Bytes, space, lf, isName, ignoredWord, Span, spaced, parameterWord}
 use Rattle.form.specs.Form.{sameWord, distinct}
 use Rattle.form.specs.Scan.{go, wordEnd, nextWord}
 use Rattle.form.specs.Lines.{bytesAt, Arguments, argumentFault, argumentOf, argumentsFrom}
@@ -26,18 +26,18 @@ use Rattle.form.proofs.VarsLine.{Outcome, fine, faulty, outcome-on, spa
 abbrev pub isArgument : List Bytes → Bytes → Bool
 isArgument vs w = sameWord w ignoredWord || (isName w && known vs w)
 
-abbrev pub placeOf : List Bytes → Bytes → Place
-placeOf vs w = let v = names (indexIn vs w) in cond (sameWord w ignoredWord) ignored v
+abbrev pub parameterOf : List Bytes → Bytes → Parameter
+parameterOf vs w = let v = names (indexIn vs w) in cond (sameWord w ignoredWord) ignored v
 
-argument-of : {s : Bytes} {p : ℕ} {w rest : Bytes} → Word s p w rest → (xs : List Span) → argumentOf s xs p (wordEnd s p) ≡ placeOf (map (bytesAt s) xs) w
+argument-of : {s : Bytes} {p : ℕ} {w rest : Bytes} → Word s p w rest → (xs : List Span) → argumentOf s xs p (wordEnd s p) ≡ parameterOf (map (bytesAt s) xs) w
 argument-of {w} h xs = rw (word-part h) (ap (λ i. cond (sameWord w ignoredWord) ignored (names i)) (index-of _ xs w))
 
 -- a word of ARGS is that of its place
-place-found : (vs : List Bytes) (w : Bytes) → isArgument vs w ≡ true → (placeWord vs (placeOf vs w) ≡ w) × (soundPlace (length vs) (placeOf vs w) ≡ true)
-place-found vs w = by (sameWord w ignoredWord) refl
+parameter-found : (vs : List Bytes) (w : Bytes) → isArgument vs w ≡ true → (parameterWord vs (parameterOf vs w) ≡ w) × (soundParameter (length vs) (parameterOf vs w) ≡ true)
+parameter-found vs w = by (sameWord w ignoredWord) refl
   where
     by : (t : Bool) → sameWord w ignoredWord ≡ t → (t || (isName w && known vs w)) ≡ true
-        → (placeWord vs (cond t ignored (names (indexIn vs w))) ≡ w) × (soundPlace (length vs) (cond t ignored (names (indexIn vs w))) ≡ true)
+        → (parameterWord vs (cond t ignored (names (indexIn vs w))) ≡ w) × (soundParameter (length vs) (cond t ignored (names (indexIn vs w))) ≡ true)
     by true e h = (sym (same-word w ignoredWord .0 e), refl)
     by false e h = let k = and-true-split (isName w) (known vs w) h .1 in (getD-index vs w k, index-known vs w ∙ k)
 
@@ -50,10 +50,10 @@ module _ (vs : List Bytes) (named : all isName vs ≡ true) (d : distinct vs ≡
       by true e = absurd (false≢true (ap isName (sym (same-word w ignoredWord .0 e)) ∙ h))
       by false e = refl
 
-  place-read : (a : Place) → soundPlace (length vs) a ≡ true
-      → (isArgument vs (placeWord vs a) ≡ true) × (placeOf vs (placeWord vs a) ≡ a) × (isWord (placeWord vs a) ≡ true)
-  place-read ignored h = (refl, refl, refl)
-  place-read (names v) h =
+  parameter-read : (a : Parameter) → soundParameter (length vs) a ≡ true
+      → (isArgument vs (parameterWord vs a) ≡ true) × (parameterOf vs (parameterWord vs a) ≡ a) × (isWord (parameterWord vs a) ≡ true)
+  parameter-read ignored h = (refl, refl, refl)
+  parameter-read (names v) h =
       let l = ltb-true v (length vs) h in
       let n : isName (getD vs v []) ≡ true = all-at isName named (mem-getD vs v [] l) in
       let i = name-not-ignored (getD vs v []) n in
@@ -61,53 +61,53 @@ module _ (vs : List Bytes) (named : all isName vs ≡ true) (d : distinct vs ≡
 
 -- words of ARGS are written from p on, up to the line's end, with room for so many
 pub record ArgumentsRead (s : Bytes) (vs : List Bytes) (room p : ℕ) : Type 0 where
-  pub places : List Place
+  pub parameters : List Parameter
   pub rest : Bytes
-  pub text : drop p s ≡ spaced (map (placeWord vs) places) ++ (lf ∷ rest)
-  pub sound : all (soundPlace (length vs)) places ≡ true
-  pub few : length places ≤ room
+  pub text : drop p s ≡ spaced (map (parameterWord vs) parameters) ++ (lf ∷ rest)
+  pub sound : all (soundParameter (length vs)) parameters ≡ true
+  pub few : length parameters ≤ room
 
 -- the course over words of ARGS comes to that or to a fault
 abbrev pub ArgumentsCourse : Bytes → List Span → List Bytes → ℕ → Type 0
-ArgumentsCourse s xs vs room = (ps : List Place) (p : ℕ) → p ≤ length s → Outcome s (argumentsFrom s xs room ps p .step) (ArgumentsRead s vs room p)
+ArgumentsCourse s xs vs room = (ps : List Parameter) (p : ℕ) → p ≤ length s → Outcome s (argumentsFrom s xs room ps p .step) (ArgumentsRead s vs room p)
 
 -- what it gives
-made : ℕ → List Place → Arguments
-made q ps = record { step = go q; places = ps }
+made : ℕ → List Parameter → Arguments
+made q ps = record { step = go q; parameters = ps }
 
 module _ (s : Bytes) (xs : List Span) (vs : List Bytes) (g : map (bytesAt s) xs ≡ vs) where
   -- past a word of ARGS
-  arguments-next : (room : ℕ) (ps : List Place) (p : ℕ) (w rest : Bytes) → Next s p w rest → isArgument vs w ≡ true
-      → argumentsFrom s xs (suc room) ps p ≡ argumentsFrom s xs room (ps ++ (placeOf vs w ∷ [])) (p + 1 + length w)
+  arguments-next : (room : ℕ) (ps : List Parameter) (p : ℕ) (w rest : Bytes) → Next s p w rest → isArgument vs w ≡ true
+      → argumentsFrom s xs (suc room) ps p ≡ argumentsFrom s xs room (ps ++ (parameterOf vs w ∷ [])) (p + 1 + length w)
   arguments-next room ps p w rest n k =
       let t : isArgument (map (bytesAt s) xs) w ≡ true = rw g k in
       rw (n .goes, argument-tested (n .word) (n .some) xs, t, ne-eqb (p + 1) p (λ i. omega arith), argument-of (n .word) xs, word-end (n .word), g)
 
-  arguments-ended : (room : ℕ) (ps : List Place) (p : ℕ) → nextWord s p ≡ go p → argumentsFrom s xs room ps p ≡ record { step = go (p + 1); places = ps }
+  arguments-ended : (room : ℕ) (ps : List Parameter) (p : ℕ) → nextWord s p ≡ go p → argumentsFrom s xs room ps p ≡ record { step = go (p + 1); parameters = ps }
   arguments-ended zero ps p e = rw (e, eq-eqb p p refl)
   arguments-ended (suc room) ps p e = rw (e, eq-eqb p p refl)
 
   -- words of ARGS that are written are read
-  pub arguments-read : all isName vs ≡ true → distinct vs ≡ true → (room : ℕ) (ps : List Place) (p : ℕ) (cs : List Place) (rest : Bytes)
-      → drop p s ≡ spaced (map (placeWord vs) cs) ++ (lf ∷ rest) → all (soundPlace (length vs)) cs ≡ true → length cs ≤ room
-      → argumentsFrom s xs room ps p ≡ record { step = go (p + length (spaced (map (placeWord vs) cs)) + 1); places = ps ++ cs }
+  pub arguments-read : all isName vs ≡ true → distinct vs ≡ true → (room : ℕ) (ps : List Parameter) (p : ℕ) (cs : List Parameter) (rest : Bytes)
+      → drop p s ≡ spaced (map (parameterWord vs) cs) ++ (lf ∷ rest) → all (soundParameter (length vs)) cs ≡ true → length cs ≤ room
+      → argumentsFrom s xs room ps p ≡ record { step = go (p + length (spaced (map (parameterWord vs) cs)) + 1); parameters = ps ++ cs }
   unfolding made
   arguments-read n d room ps p [] rest e h l = arguments-ended room ps p (gap-ended s p rest e) ∙ ap₂ made (omega arith) (sym (append-nil ps))
   arguments-read n d zero ps p (a ∷ cs) rest e h l = absurd (omega arith)
   arguments-read n d (suc room) ps p (a ∷ cs) rest e h l =
-      let m = and-true-split (soundPlace (length vs) a) (all (soundPlace (length vs)) cs) h in
-      let (k, i, j) = place-read vs n d a (m .0) in
-      let w = placeWord vs a in
-      let ws = map (placeWord vs) cs in
+      let m = and-true-split (soundParameter (length vs) a) (all (soundParameter (length vs)) cs) h in
+      let (k, i, j) = parameter-read vs n d a (m .0) in
+      let w = parameterWord vs a in
+      let ws = map (parameterWord vs) cs in
       let x = word-next s p w (spaced ws ++ (lf ∷ rest)) (e ∙ spaced-first w ws (lf ∷ rest)) j (spaced-stops ws rest) in
       arguments-next room ps p w (spaced ws ++ (lf ∷ rest)) x k ∙ ap (λ b. argumentsFrom s xs room (ps ++ (b ∷ [])) (p + 1 + length w)) i
       ∙ arguments-read n d room (ps ++ (a ∷ [])) (p + 1 + length w) cs rest (next-behind x) (m .1) (omega arith)
       ∙ ap₂ made (omega (arith, length-append w (spaced ws))) (append-snoc ps a cs)
 
   no-arguments : (room p : ℕ) (rest : Bytes) → drop p s ≡ lf ∷ rest → ArgumentsRead s vs room p
-  no-arguments room p rest t = record { places = []; rest = rest; text = t; sound = refl; few = omega arith }
+  no-arguments room p rest t = record { parameters = []; rest = rest; text = t; sound = refl; few = omega arith }
 
-  arguments-stop : (room : ℕ) (ps : List Place) (p : ℕ) (w rest : Bytes) → Next s p w rest → isArgument vs w ≡ false
+  arguments-stop : (room : ℕ) (ps : List Parameter) (p : ℕ) (w rest : Bytes) → Next s p w rest → isArgument vs w ≡ false
       → Outcome s (argumentsFrom s xs (suc room) ps p .step) (ArgumentsRead s vs (suc room) p)
   arguments-stop room ps p w rest n k =
       let t : eqb (argumentFault s xs (p + 1) (wordEnd s (p + 1))) 0 ≡ false = argument-tested (n .word) (n .some) xs ∙ rw g k in
@@ -131,14 +131,14 @@ module _ (s : Bytes) (xs : List Span) (vs : List Bytes) (g : map (bytesAt s) xs 
         where
           declared : (t : Bool) → isArgument vs w ≡ t → Outcome s (argumentsFrom s xs (suc room) ps p .step) (ArgumentsRead s vs (suc room) p)
           declared true k =
-              let a = placeOf vs w in
-              let (i, j) = place-found vs w k in
+              let a = parameterOf vs w in
+              let (i, j) = parameter-found vs w k in
               outcome-on (ap (λ r. r .step) (arguments-next room ps p w rest n k))
               (λ r. record {
-                places = a ∷ r .places;
+                parameters = a ∷ r .parameters;
                 rest = r .rest;
                 text = n .text ∙ ap₂ (λ v t. space ∷ (v ++ t)) (sym i) (sym (next-behind n) ∙ r .text)
-                    ∙ sym (spaced-first (placeWord vs a) (map (placeWord vs) (r .places)) (lf ∷ r .rest));
+                    ∙ sym (spaced-first (parameterWord vs a) (map (parameterWord vs) (r .parameters)) (lf ∷ r .rest));
                 sound = ap₂ _&&_ j (r .sound);
                 few = omega arith;
               })

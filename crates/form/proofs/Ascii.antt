@@ -11,9 +11,9 @@ use lib.ListN.{length, getD}
 use Rattle.laws.specs.Lists.{any, all, gather}
 use Rattle.laws.proofs.Lists.{and-true-split, or-true-split, all-append, all-map, all-at, all-of, not-any, either}
 use Rattle.pattern.specs.Regex.{Regex}
-use Rattle.meaning.specs.Events.{Place, ignored, names}
+use Rattle.meaning.specs.Events.{Parameter, ignored, names}
 use Rattle.meaning.specs.Book.{soundSymbol}
-use Rattle.form.specs.Text.{Bytes, isLower, isDigit, isNameByte, isName, decimal, SymbolLine, Declarations, spaced, placeWord, symLine}
+use Rattle.form.specs.Text.{Bytes, isLower, isDigit, isNameByte, isName, decimal, SymbolLine, Declarations, spaced, parameterWord, symLine}
 use Rattle.form.specs.Text.{lf, varsLine, matchLine, header, text, symbolOf}
 use Rattle.form.specs.Form.{Shape, symbolNames}
 use Rattle.form.proofs.SymbolLines.{lineWords}
@@ -55,9 +55,9 @@ word-ascii [] v h = refl
 word-ascii (w ∷ vs) zero h = and-true-split (all isAscii w) _ h .0
 word-ascii (w ∷ vs) (suc v) h = word-ascii vs v (and-true-split (all isAscii w) _ h .1)
 
-place-ascii : (vs : List Bytes) → all (all isAscii) vs ≡ true → (x : Place) → all isAscii (placeWord vs x) ≡ true
-place-ascii vs h ignored = refl
-place-ascii vs h (names v) = word-ascii vs v h
+parameter-ascii : (vs : List Bytes) → all (all isAscii) vs ≡ true → (x : Parameter) → all isAscii (parameterWord vs x) ≡ true
+parameter-ascii vs h ignored = refl
+parameter-ascii vs h (names v) = word-ascii vs v h
 
 spaced-ascii : (ws : List Bytes) → all (all isAscii) ws ≡ true → all isAscii (spaced ws) ≡ true
 spaced-ascii [] h = refl
@@ -70,8 +70,8 @@ line-ascii : (vs : List Bytes) (n : ℕ) (l : SymbolLine) → all (all isAscii) 
 unfolding soundSymbol
 line-ascii vs n l h a b =
     let kind = leb-true (l .kind) 255 (simp and-eq-true-iff at b .0 .0 .1) in
-    let places : all (all isAscii) (map (placeWord vs) (l .places)) ≡ true = all-map _ _ (l .places) ∙ all-of _ (l .places) λ x _. place-ascii vs h x in
-    let words = spaced-ascii (lineWords vs l) (rw (name-ascii (l .name) a, decimal-ascii (l .kind) kind, places)) in
+    let parameters : all (all isAscii) (map (parameterWord vs) (l .parameters)) ≡ true = all-map _ _ (l .parameters) ∙ all-of _ (l .parameters) λ x _. parameter-ascii vs h x in
+    let words = spaced-ascii (lineWords vs l) (rw (name-ascii (l .name) a, decimal-ascii (l .kind) kind, parameters)) in
     all-append isAscii (spaced (lineWords vs l)) (lf ∷ []) ∙ rw words
 
 lines-ascii : (vs : List Bytes) (n : ℕ) (ls : List SymbolLine) → all (all isAscii) vs ≡ true → all isName (map (λ l. l .name) ls) ≡ true

@@ -11,7 +11,7 @@ use lib.Dec.{eqb, leb, ltb}
 use lib.ListN.{length, drop, length-drop}
 use Rattle.laws.proofs.Lists.{either}
 use Rattle.pattern.specs.Regex.{Regex, cat, alt}
-use Rattle.meaning.specs.Events.{Place}
+use Rattle.meaning.specs.Events.{Parameter}
 use Rattle.form.specs.Text.{Bytes, Span, varsWord, space, lf, isLower}
 use Rattle.form.specs.Form.{sameWord}
 use Rattle.form.specs.Phrase.{opening, closing, bar, asterisk, plusSign, question}
@@ -59,7 +59,7 @@ variables-range s zero xs p = simp (push (λ (v : Variables). v .step), push ste
 variables-range s (suc n) xs p =
     simp (push (λ (v : Variables). v .step), push stepInRange, next-range, declare-range, variables-range s n, cond-same)
 
-arguments-range : (s : Bytes) (xs : List Span) (n : ℕ) (ps : List Place) (p : ℕ) → stepInRange (argumentsFrom s xs n ps p .step) ≡ true
+arguments-range : (s : Bytes) (xs : List Span) (n : ℕ) (ps : List Parameter) (p : ℕ) → stepInRange (argumentsFrom s xs n ps p .step) ≡ true
 arguments-range s xs zero ps p = simp (push (λ (v : Arguments). v .step), push stepInRange, next-range, cond-same)
 arguments-range s xs (suc n) ps p =
     simp (push (λ (v : Arguments). v .step), push stepInRange, next-range, argument-range, arguments-range s xs n, cond-same)

@@ -13,7 +13,7 @@ use Rattle.laws.specs.Lists.{all, gather}
 use Rattle.laws.proofs.Lists.{and-true-split, all-append}
 use Rattle.meaning.specs.Book.{soundSymbol}
 use Rattle.form.specs.Limits.{variableLimit, symbolLimit}
-use Rattle.form.specs.Text.{Bytes, space, lf, isName, varsWord, symWord, matchWord, decimal, placeWord, spaced, varsLine, symLine}
+use Rattle.form.specs.Text.{Bytes, space, lf, isName, varsWord, symWord, matchWord, decimal, parameterWord, spaced, varsLine, symLine}
 use Rattle.form.specs.Text.{SymbolLine, Declarations, header, symbolOf, variableSpans, symbolSpans}
 use Rattle.form.specs.Form.{sameWord, distinct, allNames, symbolNames}
 use Rattle.form.specs.Scan.{go, fail, run, part, isWordByte, wordEnd}
@@ -50,7 +50,7 @@ symbols-placed s p vs [] rest e = refl
 symbols-placed s p vs (l ∷ ls) rest e =
     let tail = gather (symLine vs) ls ++ rest in
     let h : drop p s ≡ symLine vs l ++ tail = e ∙ append-assoc (symLine vs l) (gather (symLine vs) ls) rest in
-    let ws = decimal (l .kind) ∷ map (placeWord vs) (l .places) in
+    let ws = decimal (l .kind) ∷ map (parameterWord vs) (l .parameters) in
     let k : symLine vs l ++ tail ≡ symWord ++ (space ∷ (l .name ++ (spaced ws ++ (lf ∷ tail)))) =
     line-text vs l tail ∙ ap (λ r. symWord ++ r) (spaced-first (l .name) ws (lf ∷ tail)) in
     ap₂ _∷_ (part-first s (p + 4) (l .name) _ (behind s p (symWord ++ (space ∷ [])) (l .name ++ (spaced ws ++ (lf ∷ tail))) (h ∙ k)))

@@ -10,8 +10,8 @@ use lib.ListN.{length, drop, length-append}
 use Rattle.laws.specs.Lists.{all}
 use Rattle.laws.proofs.Lists.{and-true-split}
 use Rattle.meaning.specs.Events.{Symbol}
-use Rattle.meaning.specs.Book.{soundPlace, soundSymbol}
-use Rattle.form.specs.Text.{Bytes, space, lf, isName, decimal, Span, spaced, placeWord, SymbolLine, symbolOf}
+use Rattle.meaning.specs.Book.{soundParameter, soundSymbol}
+use Rattle.form.specs.Text.{Bytes, space, lf, isName, decimal, Span, spaced, parameterWord, SymbolLine, symbolOf}
 use Rattle.form.specs.Form.{distinct}
 use Rattle.form.specs.Scan.{Step, go, fail, wordEnd}
 use Rattle.form.specs.Lines.{bytesAt, Table, Arguments, SymbolRead, noSymbolRead, declareFault, argumentsFrom, wantWord, kindFrom, symbolFrom}
@@ -43,40 +43,40 @@ want s p l = by (gap s p)
 record KindRead (s : Bytes) (vs : List Bytes) (p : ℕ) : Type 0 where
   pub symbol : Symbol
   pub rest : Bytes
-  pub text : drop p s ≡ spaced (decimal (symbol .kind) ∷ map (placeWord vs) (symbol .places)) ++ (lf ∷ rest)
+  pub text : drop p s ≡ spaced (decimal (symbol .kind) ∷ map (parameterWord vs) (symbol .parameters)) ++ (lf ∷ rest)
   pub sound : soundSymbol (length vs) symbol ≡ true
 
 sound-split : (n : ℕ) (y : Symbol) → soundSymbol n y ≡ true
-    → (1 ≤ y .kind) × (y .kind ≤ 255) × (length (y .places) ≤ 4) × (all (soundPlace n) (y .places) ≡ true)
+    → (1 ≤ y .kind) × (y .kind ≤ 255) × (length (y .parameters) ≤ 4) × (all (soundParameter n) (y .parameters) ≡ true)
 unfolding soundSymbol
 sound-split n y h =
-    let a = and-true-split _ (all (soundPlace n) (y .places)) h in
-    let b = and-true-split _ (leb (length (y .places)) 4) (a .0) in
+    let a = and-true-split _ (all (soundParameter n) (y .parameters)) h in
+    let b = and-true-split _ (leb (length (y .parameters)) 4) (a .0) in
     let c = and-true-split (leb 1 (y .kind)) (leb (y .kind) 255) (b .0) in
-    (leb-true 1 (y .kind) (c .0), leb-true (y .kind) 255 (c .1), leb-true (length (y .places)) 4 (b .1), a .1)
+    (leb-true 1 (y .kind) (c .0), leb-true (y .kind) 255 (c .1), leb-true (length (y .parameters)) 4 (b .1), a .1)
 
-sound-of : (n : ℕ) (y : Symbol) → 1 ≤ y .kind → y .kind ≤ 255 → length (y .places) ≤ 4 → all (soundPlace n) (y .places) ≡ true → soundSymbol n y ≡ true
+sound-of : (n : ℕ) (y : Symbol) → 1 ≤ y .kind → y .kind ≤ 255 → length (y .parameters) ≤ 4 → all (soundParameter n) (y .parameters) ≡ true → soundSymbol n y ≡ true
 unfolding soundSymbol
-sound-of n y h k l a = rw (le-leb 1 (y .kind) h, le-leb (y .kind) 255 k, le-leb (length (y .places)) 4 l, a)
+sound-of n y h k l a = rw (le-leb 1 (y .kind) h, le-leb (y .kind) 255 k, le-leb (length (y .parameters)) 4 l, a)
 
 module _ (s : Bytes) (xs : List Span) (vs : List Bytes) (g : map (bytesAt s) xs ≡ vs) where
   -- past KIND
   kind-next : (x : Span) (p : ℕ) (w rest : Bytes) → Next s p w rest → (r : Arguments) → argumentsFrom s xs 4 [] (p + 1 + length w) ≡ r
       → kindFrom s xs x p ≡ cond (eqb (kindIn w) 0) (noSymbolRead (fail 2 (p + 1)))
-      (cond (eqb (r .step .fault) 0) (record { step = r .step; name = x; symbol = record { kind = kindIn w; places = r .places } }) (noSymbolRead (r .step)))
+      (cond (eqb (r .step .fault) 0) (record { step = r .step; name = x; symbol = record { kind = kindIn w; parameters = r .parameters } }) (noSymbolRead (r .step)))
   unfolding kindFrom
   kind-next x p w rest n r e = rw (want-next n, kind-of (n .word) (n .some), word-end (n .word), e)
 
   kind-line-read : all isName vs ≡ true → distinct vs ≡ true → (x : Span) (p : ℕ) (y : Symbol) (rest : Bytes)
-      → drop p s ≡ spaced (decimal (y .kind) ∷ map (placeWord vs) (y .places)) ++ (lf ∷ rest) → soundSymbol (length vs) y ≡ true
-      → kindFrom s xs x p ≡ record { step = go (p + length (spaced (decimal (y .kind) ∷ map (placeWord vs) (y .places))) + 1); name = x; symbol = y }
+      → drop p s ≡ spaced (decimal (y .kind) ∷ map (parameterWord vs) (y .parameters)) ++ (lf ∷ rest) → soundSymbol (length vs) y ≡ true
+      → kindFrom s xs x p ≡ record { step = go (p + length (spaced (decimal (y .kind) ∷ map (parameterWord vs) (y .parameters))) + 1); name = x; symbol = y }
   kind-line-read named d x p y rest e h =
       let (h₀, h₁, h₂, h₃) = sound-split (length vs) y h in
       let (k, i) = kind-read (y .kind) h₀ h₁ in
       let w = decimal (y .kind) in
-      let ws = map (placeWord vs) (y .places) in
+      let ws = map (parameterWord vs) (y .parameters) in
       let n = word-next s p w (spaced ws ++ (lf ∷ rest)) (e ∙ spaced-first w ws (lf ∷ rest)) i (spaced-stops ws rest) in
-      kind-next x p w _ n _ (arguments-read s xs vs g named d 4 [] (p + 1 + length w) (y .places) rest (next-behind n) h₃ h₂)
+      kind-next x p w _ n _ (arguments-read s xs vs g named d 4 [] (p + 1 + length w) (y .parameters) rest (next-behind n) h₃ h₂)
       ∙ rw (k, ne-eqb (y .kind) 0 (λ j. omega arith))
       (ap (λ q. record { step = go q; name = x; symbol = y }) (omega (arith, length-append w (spaced ws))))
 
@@ -88,7 +88,7 @@ module _ (s : Bytes) (xs : List Span) (vs : List Bytes) (g : map (bytesAt s) xs 
       r = argumentsFrom s xs 4 [] (p + 1 + length w)
 
       whole : SymbolRead
-      whole = record { step = r .step; name = x; symbol = record { kind = kindIn w; places = r .places } }
+      whole = record { step = r .step; name = x; symbol = record { kind = kindIn w; parameters = r .parameters } }
 
       by : (t : Bool) → cond t whole (noSymbolRead (r .step)) .step ≡ r .step
       by true = refl
@@ -110,17 +110,17 @@ module _ (s : Bytes) (xs : List Span) (vs : List Bytes) (g : map (bytesAt s) xs 
               let (i, j, m) = kind-found w (eqb-false (kindIn w) 0 k) in
               outcome-on (kind-step x p w rest n k)
               (λ a. record {
-                symbol = record { kind = kindIn w; places = a .places };
+                symbol = record { kind = kindIn w; parameters = a .parameters };
                 rest = a .rest;
                 text = n .text ∙ ap₂ (λ v t. space ∷ (v ++ t)) i (sym (next-behind n) ∙ a .text)
-                    ∙ sym (spaced-first (decimal (kindIn w)) (map (placeWord vs) (a .places)) (lf ∷ a .rest));
-                sound = sound-of (length vs) (record { kind = kindIn w; places = a .places }) j m (a .few) (a .sound);
+                    ∙ sym (spaced-first (decimal (kindIn w)) (map (parameterWord vs) (a .parameters)) (lf ∷ a .rest));
+                sound = sound-of (length vs) (record { kind = kindIn w; parameters = a .parameters }) j m (a .few) (a .sound);
               })
               (arguments-course s xs vs g 4 [] (p + 1 + length w) (next-inside n))
 
 -- the words of a line behind `sym`
 abbrev pub lineWords : List Bytes → SymbolLine → List Bytes
-lineWords vs l = l .name ∷ decimal (l .kind) ∷ map (placeWord vs) (l .places)
+lineWords vs l = l .name ∷ decimal (l .kind) ∷ map (parameterWord vs) (l .parameters)
 
 -- NAME, KIND and ARGS of a new symbol are written from p on, up to the line's end, where the names ks are known
 pub record SymbolFound (s : Bytes) (vs ks : List Bytes) (p : ℕ) : Type 0 where
@@ -134,7 +134,7 @@ pub record SymbolFound (s : Bytes) (vs ks : List Bytes) (p : ℕ) : Type 0 where
 pub symbol-bytes : {s : Bytes} {vs ks : List Bytes} {p : ℕ} (r : SymbolFound s vs ks p) → bytesAt s (spanAt (p + 1) (r .line .name)) ≡ r .line .name
 symbol-bytes {s} {vs} {p} r =
     let w = r .line .name in
-    let ws = decimal (r .line .kind) ∷ map (placeWord vs) (r .line .places) in
+    let ws = decimal (r .line .kind) ∷ map (parameterWord vs) (r .line .parameters) in
     part-first s (p + 1) w _ (behind s p (space ∷ []) _ (r .text ∙ spaced-first w ws (lf ∷ r .rest)))
 
 module _ (s : Bytes) (t : Table) (vs ks : List Bytes) (g : map (bytesAt s) (t .variables) ≡ vs) (f : map (bytesAt s) (t .variables ++ t .symbols) ≡ ks) where
@@ -156,7 +156,7 @@ module _ (s : Bytes) (t : Table) (vs ks : List Bytes) (g : map (bytesAt s) (t .v
   symbol-read named d p r =
       let y = r .line in
       let w = y .name in
-      let ws = decimal (y .kind) ∷ map (placeWord vs) (y .places) in
+      let ws = decimal (y .kind) ∷ map (parameterWord vs) (y .parameters) in
       let e = r .text ∙ spaced-first w ws (lf ∷ r .rest) in
       let n = word-next s p w (spaced ws ++ (lf ∷ r .rest)) e (name-word w (r .named)) (spaced-stops ws (r .rest)) in
       symbol-next p w _ n (ap₂ _&&_ (r .named) (ap not (r .fresh)))
@@ -176,10 +176,10 @@ module _ (s : Bytes) (t : Table) (vs ks : List Bytes) (g : map (bytesAt s) (t .v
               let a = and-true-split (isName w) (not (known ks w)) k in
               outcome-on (ap (λ r. r .step) (symbol-next p w rest n k))
               (λ r. record {
-                line = record { name = w; kind = r .symbol .kind; places = r .symbol .places };
+                line = record { name = w; kind = r .symbol .kind; parameters = r .symbol .parameters };
                 rest = r .rest;
                 text = n .text ∙ ap (λ v. space ∷ (w ++ v)) (sym (next-behind n) ∙ r .text)
-                    ∙ sym (spaced-first w (decimal (r .symbol .kind) ∷ map (placeWord vs) (r .symbol .places)) (lf ∷ r .rest));
+                    ∙ sym (spaced-first w (decimal (r .symbol .kind) ∷ map (parameterWord vs) (r .symbol .parameters)) (lf ∷ r .rest));
                 named = a .0;
                 fresh = not-true (known ks w) (a .1);
                 sound = r .sound;

@@ -35,7 +35,7 @@ allNames d = d .variables ++ symbolNames d
 
 -- whether the symbol with number a binds variable v
 abbrev pub binds : Declarations → (v a : ℕ) → Bool
-binds d v a = any (Book.binds v) (getD (map symbolOf (d .symbols)) a noSymbol .places)
+binds d v a = any (Book.binds v) (getD (map symbolOf (d .symbols)) a noSymbol .parameters)
 
 -- The text s declares d and writes the pattern r, within the limits: all of "The book" but its last sentence on words.
 pub record Shape (s : Bytes) (d : Declarations) (r : Regex) : Type 0 where

@@ -5,7 +5,7 @@ use mathlib.Core.List.{List, [], _∷_, _++_, map}
 use Prim.Native.Nat.{ℕ, zero, suc, _+_, _-_}
 use lib.Dec.{eqb, ltb}
 use lib.ListN.{length}
-use Rattle.meaning.specs.Events.{Place, ignored, names, Symbol}
+use Rattle.meaning.specs.Events.{Parameter, ignored, names, Symbol}
 use Rattle.form.specs.Limits.{variableLimit, symbolLimit, parameterLimit}
 use Rattle.form.specs.Text.{Bytes, symWord, matchWord, varsWord, ignoredWord, Declarations, symbolOf, varsLine, Span, variableSpans, symbolSpans}
 use Rattle.form.specs.Form.{sameWord}
@@ -58,7 +58,7 @@ variablesFrom s (suc room) xs p =
 
 pub record Arguments : Type 0 where
   pub step : Step
-  pub places : List Place
+  pub parameters : List Parameter
 
 -- the fault of the word from p to e as an argument, 0 where it is `_` or a declared variable ("a symbol's name among ARGS …
 -- is 5"), and the place it stands for
@@ -69,17 +69,17 @@ argumentFault s xs p e =
     let f : ℕ = cond (eqb n 0) d n in
     cond (sameWord (part s p e) ignoredWord) 0 f
 
-abbrev pub argumentOf : Bytes → List Span → (p e : ℕ) → Place
+abbrev pub argumentOf : Bytes → List Span → (p e : ℕ) → Parameter
 argumentOf s xs p e =
     let v = names (indexOf s xs (part s p e)) in
     cond (sameWord (part s p e) ignoredWord) ignored v
 
 -- argument words from p on, with room for so many more
-abbrev pub argumentsFrom : Bytes → List Span → ℕ → List Place → ℕ → Arguments
+abbrev pub argumentsFrom : Bytes → List Span → ℕ → List Parameter → ℕ → Arguments
 argumentsFrom s xs zero ps p =
     let n = nextWord s p in
     let q = n .place in
-    cond (eqb (n .fault) 0) (record { step = cond (eqb q p) (go (p + 1)) (fail 3 q); places = ps }) (record { step = n; places = ps })
+    cond (eqb (n .fault) 0) (record { step = cond (eqb q p) (go (p + 1)) (fail 3 q); parameters = ps }) (record { step = n; parameters = ps })
 argumentsFrom s xs (suc room) ps p =
     let n = nextWord s p in
     let q = n .place in
@@ -87,8 +87,8 @@ argumentsFrom s xs (suc room) ps p =
     let f = argumentFault s xs q e in
     let more = argumentsFrom s xs room (ps ++ (argumentOf s xs q e ∷ [])) e in
     cond (eqb (n .fault) 0)
-    (cond (eqb q p) (record { step = go (p + 1); places = ps }) (cond (eqb f 0) more (record { step = fail f q; places = ps })))
-    (record { step = n; places = ps })
+    (cond (eqb q p) (record { step = go (p + 1); parameters = ps }) (cond (eqb f 0) more (record { step = fail f q; parameters = ps })))
+    (record { step = n; parameters = ps })
 
 -- a word that must stand: the LF in its place is "a missing one … placed at the LF"
 unfoldable pub wantWord : Bytes → ℕ → Step
@@ -103,7 +103,7 @@ pub record SymbolRead : Type 0 where
 
 -- nothing read but the fault
 abbrev pub noSymbolRead : Step → SymbolRead
-noSymbolRead x = record { step = x; name = spanOf 0 0; symbol = record { kind = 0; places = [] } }
+noSymbolRead x = record { step = x; name = spanOf 0 0; symbol = record { kind = 0; parameters = [] } }
 
 -- KIND and ARGS, behind the name x, which ends at p
 unfoldable pub kindFrom : Bytes → List Span → Span → ℕ → SymbolRead
@@ -112,7 +112,7 @@ kindFrom s xs x p =
     let e = wordEnd s (k .place) in
     let n = kindOf s (k .place) e in
     let r = argumentsFrom s xs parameterLimit [] e in
-    let whole : SymbolRead = record { step = r .step; name = x; symbol = record { kind = n; places = r .places } } in
+    let whole : SymbolRead = record { step = r .step; name = x; symbol = record { kind = n; parameters = r .parameters } } in
     let some = cond (eqb (r .step .fault) 0) whole (noSymbolRead (r .step)) in
     let kinded = cond (eqb n 0) (noSymbolRead (fail 2 (k .place))) some in
     cond (eqb (k .fault) 0) kinded (noSymbolRead k)

@@ -28,7 +28,7 @@ lastLine s a =
 
 -- "each word must contain, for each variable, a symbol that binds it": the variables that a symbol binds, by its number
 abbrev pub variablesOf : List Symbol → ℕ → ℕ
-variablesOf table a = boundIn (getD table a noSymbol .places)
+variablesOf table a = boundIn (getD table a noSymbol .parameters)
 
 -- every one of n variables has its bit
 abbrev pub allBits : ℕ → ℕ → Bool

@@ -6,7 +6,7 @@ use Prim.Native.String.{String}
 use lib.ListN.{replicate}
 use Rattle.laws.specs.Lists.{gather}
 use Rattle.pattern.specs.Regex.{Regex, lit, cat, alt, star, plus, opt}
-use Rattle.meaning.specs.Events.{Place, ignored, names}
+use Rattle.meaning.specs.Events.{Parameter, ignored, names}
 use Rattle.form.specs.Text.{Bytes, ascii, space, SymbolLine, Declarations, symbolOf, Span, spans, text}
 use Rattle.form.specs.Form.{symbolNames}
 use Rattle.form.specs.Scan.{fail}
@@ -59,8 +59,8 @@ wanted (accepts s r) =
     }
 wanted (refuses s n p) = refusal (refused (fail n p))
 
-abbrev line : String → ℕ → List Place → SymbolLine
-line w k ps = record { name = ascii w; kind = k; places = ps }
+abbrev line : String → ℕ → List Parameter → SymbolLine
+line w k ps = record { name = ascii w; kind = k; parameters = ps }
 
 abbrev span : ℕ → ℕ → Span
 span p n = record { start = p; size = n }

@@ -8,7 +8,7 @@ use lib.Dec.{leb, ltb}
 use lib.ListN.{length, getD}
 use Rattle.laws.specs.Lists.{all, gather}
 use Rattle.pattern.specs.Regex.{Regex}
-use Rattle.meaning.specs.Events.{Place, ignored, names, Symbol}
+use Rattle.meaning.specs.Events.{Parameter, ignored, names, Symbol}
 use Rattle.meaning.specs.Meaning.{Tracematch}
 use Rattle.form.specs.Limits.{nameLimit}
 
@@ -83,7 +83,7 @@ decimal n =
 pub record SymbolLine : Type 0 where
   pub name : Bytes
   pub kind : ℕ
-  pub places : List Place
+  pub parameters : List Parameter
 
 -- what the lines before the pattern declare
 pub record Declarations : Type 0 where
@@ -96,9 +96,9 @@ spaced [] = []
 spaced (w ∷ ws) = space ∷ w ++ spaced ws
 
 -- an argument word: "each a declared variable or `_`"
-abbrev pub placeWord : List Bytes → Place → Bytes
-placeWord variables ignored = ignoredWord
-placeWord variables (names v) = getD variables v []
+abbrev pub parameterWord : List Bytes → Parameter → Bytes
+parameterWord variables ignored = ignoredWord
+parameterWord variables (names v) = getD variables v []
 
 -- "First line: `vars`, then 0 to 4 variable names."
 abbrev pub varsLine : List Bytes → Bytes
@@ -106,7 +106,7 @@ varsLine variables = varsWord ++ (spaced variables ++ (lf ∷ []))
 
 -- "Then 1 to 16 lines `sym NAME KIND ARGS`."
 abbrev pub symLine : List Bytes → SymbolLine → Bytes
-symLine variables l = symWord ++ (spaced (l .name ∷ decimal (l .kind) ∷ map (placeWord variables) (l .places)) ++ (lf ∷ []))
+symLine variables l = symWord ++ (spaced (l .name ∷ decimal (l .kind) ∷ map (parameterWord variables) (l .parameters)) ++ (lf ∷ []))
 
 -- "Last line: `match`, a space, a pattern. Nothing follows it."
 abbrev pub matchLine : Bytes → Bytes
@@ -121,7 +121,7 @@ text d p = header d ++ matchLine p
 
 -- the tracematch that declarations and a pattern make
 abbrev pub symbolOf : SymbolLine → Symbol
-symbolOf l = record { kind = l .kind; places = l .places }
+symbolOf l = record { kind = l .kind; parameters = l .parameters }
 
 abbrev pub tracematchOf : Declarations → Regex → Tracematch
 tracematchOf d r = record { variables = length (d .variables); symbols = map symbolOf (d .symbols); pattern = r }

@@ -6,6 +6,6 @@ pub mod Order
 pub mod Sets
 pub mod Parts
 pub mod Maps
-pub mod Places
+pub mod Arrays
 pub mod Turns
 pub mod Slices

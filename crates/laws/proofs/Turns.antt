@@ -14,7 +14,7 @@ use borrow.Author.Tests.{leb-true, leb-false, le-leb, lt-leb}
 use Rattle.laws.specs.Order.{IsOrder, ascending}
 use Rattle.laws.specs.Sets.{insert, Grown, full, grown, within}
 use Rattle.laws.proofs.Lists.{taken-none}
-use Rattle.laws.proofs.Places.{place-none, place-passed, place-found, place-behind}
+use Rattle.laws.proofs.Arrays.{insertion-none, insertion-passed, insertion-found, insertion-behind}
 
 -- A count with what it counts, where no more than `cap` are allowed. With n the length of l it is `within cap l`.
 module _ {A : Type 0} (cap n : ℕ) (l : List A) where
@@ -57,7 +57,7 @@ pub record Compared {A : Type 0} (cmp : A → A → Ordering) (n : ℕ) (l : Lis
 
 module _ {A : Type 0} {cmp : A → A → Ordering} {n : ℕ} {l : List A} {x : A} where
   pub passed-none : n ≤ length l → Passed cmp n l x n
-  passed-none h = record { upto = omega arith; same = place-none cmp x (take n l) n (length-take-le n l h) }
+  passed-none h = record { upto = omega arith; same = insertion-none cmp x (take n l) n (length-take-le n l h) }
 
   pub passed-all : {i : ℕ} → Passed cmp n l x i → i ≤ 0 → insert cmp x (take n l) ≡ x ∷ take n l
   passed-all {i} p h = let z : i ≡ 0 = omega arith in rw z at (p .same)
@@ -77,13 +77,13 @@ module _ {A : Type 0} {cmp : A → A → Ordering} {n : ℕ} {l : List A} {x : A
     before = rw (c .next) (c .passed .same)
 
     pub passed-more : cmp x (getD l j d) ≡ Ordering·lt → Passed cmp n l x j
-    passed-more e = record { upto = omega (arith, below); same = place-passed cmp x (take n l) j d inside (among e) before }
+    passed-more e = record { upto = omega (arith, below); same = insertion-passed cmp x (take n l) j d inside (among e) before }
 
     pub passed-found : cmp x (getD l j d) ≡ Ordering·eq → insert cmp x (take n l) ≡ take n l
-    passed-found e = place-found (c .order) x (take n l) j d (c .rises) inside (among e) before
+    passed-found e = insertion-found (c .order) x (take n l) j d (c .rises) inside (among e) before
 
     pub passed-behind : cmp x (getD l j d) ≡ Ordering·gt → insert cmp x (take n l) ≡ take i (take n l) ++ x ∷ drop i (take n l)
-    passed-behind e = rw (← c .next) (place-behind (c .order) x (take n l) j d (c .rises) inside (among e) before)
+    passed-behind e = rw (← c .next) (insertion-behind (c .order) x (take n l) j d (c .rises) inside (among e) before)
 
 -- A shift from the end: of the first n elements of l those from i on stand in m one place further up, and those before as they were.
 pub record Moved {A : Type 0} (n : ℕ) (l : List A) (i : ℕ) (m : List A) : Type 0 where

@@ -17,13 +17,13 @@ use Rattle.form.specs.Scan.{at, part, go, fail, value, kindOf, nextWord, wordEn
 use Rattle.form.specs.Lines as Lines
 use Rattle.form.specs.Lines.{bytesAt, indexOf, wantWord, Arguments, argumentFault, argumentOf, argumentsFrom, noSymbolRead, kindFrom}
 use Rattle.meaning.specs.Events as Events
-use Rattle.meaning.specs.Events.{Place}
+use Rattle.meaning.specs.Events.{Parameter}
 use Rattle.meaning.specs.Meaning.{noSymbol}
 use Rattle.form.proofs.Words.{Gap, gap, byte-inside}
 use Rattle.text.specs.Steps.{stepOf}
 use Rattle.text.specs.declared.Step.{Step}
-use Rattle.table.specs.Tables.{placeOf, symbolOf, nameOf, tableOf, viewSymbol, viewTable, spanOf, inside, Ready}
-use Rattle.table.specs.declared.Place as Tables
+use Rattle.table.specs.Tables.{parameterOf, symbolOf, nameOf, tableOf, viewSymbol, viewTable, spanOf, inside, Ready}
+use Rattle.table.specs.declared.Parameter as Tables
 use Rattle.table.specs.declared.Symbol.{Symbol}
 use Rattle.table.specs.declared.Table.{Table}
 use Rattle.table.proofs.Codes.{names-variables, view-symbol, symbol-more}
@@ -78,45 +78,45 @@ pub step-back : {n : Step} {x : Scan.Step} → n ≡ stepOf x → x ≡ record {
 step-back e = ap (λ (m : Step). record { fault = m .fault; place = m .place }) (sym e)
 
 -- Arguments from p on, behind which the step x comes.
-module _ (s : Bytes) (xs : List Span) (ps : List Place) (p : ℕ) {x : Scan.Step} (n : nextWord s p ≡ x) where
-  pub arguments-fault : (room : ℕ) → (x .fault ≡ 0 → ⊥) → argumentsFrom s xs room ps p ≡ record { step = x; places = ps }
+module _ (s : Bytes) (xs : List Span) (ps : List Parameter) (p : ℕ) {x : Scan.Step} (n : nextWord s p ≡ x) where
+  pub arguments-fault : (room : ℕ) → (x .fault ≡ 0 → ⊥) → argumentsFrom s xs room ps p ≡ record { step = x; parameters = ps }
   arguments-fault zero h = rw (n, ne-eqb _ 0 h)
   arguments-fault (suc room) h = rw (n, ne-eqb _ 0 h)
 
   module _ (ok : x .fault ≡ 0) where
-    pub arguments-end : (room : ℕ) → x .place ≡ p → argumentsFrom s xs room ps p ≡ record { step = go (p + 1); places = ps }
+    pub arguments-end : (room : ℕ) → x .place ≡ p → argumentsFrom s xs room ps p ≡ record { step = go (p + 1); parameters = ps }
     arguments-end zero h = rw (n, eq-eqb _ 0 ok, eq-eqb _ p h)
     arguments-end (suc room) h = rw (n, eq-eqb _ 0 ok, eq-eqb _ p h)
 
     module _ (on : x .place ≡ p → ⊥) (count : ℕ) where
-      pub arguments-full : 4 ≤ count → argumentsFrom s xs (4 - count) ps p ≡ record { step = fail 3 (x .place); places = ps }
+      pub arguments-full : 4 ≤ count → argumentsFrom s xs (4 - count) ps p ≡ record { step = fail 3 (x .place); parameters = ps }
       arguments-full l = let k : 4 - count ≡ 0 = omega arith in rw (k, n, eq-eqb _ 0 ok, ne-eqb _ p on)
 
       module _ (l : count < 4) {e f : ℕ} (ends : e ≡ wordEnd s (x .place)) (tells : f ≡ argumentFault s xs (x .place) e) where
         abbrev argument-more : Arguments
         argument-more = argumentsFrom s xs (4 - (count + 1)) (ps ++ (argumentOf s xs (x .place) e ∷ [])) e
 
-        argument-word : argumentsFrom s xs (4 - count) ps p ≡ cond (eqb f 0) argument-more (record { step = fail f (x .place); places = ps })
+        argument-word : argumentsFrom s xs (4 - count) ps p ≡ cond (eqb f 0) argument-more (record { step = fail f (x .place); parameters = ps })
         argument-word =
             let k : 4 - count ≡ suc (4 - (count + 1)) = omega arith in
             rw (k, n, eq-eqb _ 0 ok, ne-eqb _ p on, ← ends, ← tells)
 
-        pub argument-wrong : (f ≡ 0 → ⊥) → argumentsFrom s xs (4 - count) ps p ≡ record { step = fail f (x .place); places = ps }
+        pub argument-wrong : (f ≡ 0 → ⊥) → argumentsFrom s xs (4 - count) ps p ≡ record { step = fail f (x .place); parameters = ps }
         argument-wrong h = argument-word ∙ rw (ne-eqb f 0 h)
 
         pub argument-next : f ≡ 0 → argumentsFrom s xs (4 - count) ps p ≡ argument-more
         argument-next h = argument-word ∙ rw (eq-eqb f 0 h)
 
 -- a symbol with one more place
-abbrev pub oneMore : Symbol → Tables.Place → Symbol
-oneMore y w = record { kind = y .kind; count = y .count + 1; places = set (y .places) (y .count) w }
+abbrev pub oneMore : Symbol → Tables.Parameter → Symbol
+oneMore y w = record { kind = y .kind; count = y .count + 1; parameters = set (y .parameters) (y .count) w }
 
 view-kind : (y : Symbol) → viewSymbol y .kind ≡ y .kind
 unfolding viewSymbol
 view-kind y = refl
 
 -- what a symbol codes is read back
-module _ {y : Symbol} (v : Events.Symbol) (e : y ≡ symbolOf v) (l : length (v .places) ≤ 4) where
+module _ {y : Symbol} (v : Events.Symbol) (e : y ≡ symbolOf v) (l : length (v .parameters) ≤ 4) where
   coded-view : viewSymbol y ≡ v
   coded-view = ap viewSymbol e ∙ view-symbol v l
 
@@ -125,24 +125,24 @@ module _ {y : Symbol} (v : Events.Symbol) (e : y ≡ symbolOf v) (l : length (v 
 
 -- A symbol as the code has it, that codes what is read back of it.
 module _ {y : Symbol} (h : y ≡ symbolOf (viewSymbol y)) where
-  pub arguments-kept : {x : Scan.Step} {a : Arguments} → a ≡ record { step = x; places = viewSymbol y .places }
+  pub arguments-kept : {x : Scan.Step} {a : Arguments} → a ≡ record { step = x; parameters = viewSymbol y .parameters }
       → record { fault = x .fault; place = x .place; symbol = y } ≡ argumentsRead (y .kind) a
   unfolding viewSymbol
   arguments-kept {x} e = rw e (ap (λ (z : Symbol). record { fault = x .fault; place = x .place; symbol = z }) h)
 
-  coded-count : y .count ≡ length (viewSymbol y .places)
+  coded-count : y .count ≡ length (viewSymbol y .parameters)
   unfolding symbolOf
   coded-count = ap (λ z. z .count) h
 
   -- with the place w more, which codes a
-  module _ (l : y .count < 4) (a : Place) {w : Tables.Place} (e : w ≡ placeOf a) where
+  module _ (l : y .count < 4) (a : Parameter) {w : Tables.Parameter} (e : w ≡ parameterOf a) where
     abbrev more : Events.Symbol
-    more = record { kind = y .kind; places = viewSymbol y .places ++ (a ∷ []) }
+    more = record { kind = y .kind; parameters = viewSymbol y .parameters ++ (a ∷ []) }
 
     more-coded : oneMore y w ≡ symbolOf more
-    more-coded = cc (coded-count, ap (λ z. z .places) h, view-kind y, symbol-more (viewSymbol y) a (omega (arith, coded-count)))
+    more-coded = cc (coded-count, ap (λ z. z .parameters) h, view-kind y, symbol-more (viewSymbol y) a (omega (arith, coded-count)))
 
-    more-few : length (more .places) ≤ 4
+    more-few : length (more .parameters) ≤ 4
     more-few = rw length-append (omega (arith, coded-count))
 
     pub more-kept : oneMore y w ≡ symbolOf (viewSymbol (oneMore y w))
@@ -150,23 +150,23 @@ module _ {y : Symbol} (h : y ≡ symbolOf (viewSymbol y)) where
 
     -- what is read behind it, with a among the places
     pub more-reads : (s : Bytes) (xs : List Span) (e : ℕ) {r : ArgumentsRead} {m : Arguments}
-        → r ≡ argumentsRead (y .kind) (argumentsFrom s xs (4 - (y .count + 1)) (viewSymbol (oneMore y w) .places) e)
-        → m ≡ argumentsFrom s xs (4 - (y .count + 1)) (more .places) e → r ≡ argumentsRead (y .kind) m
+        → r ≡ argumentsRead (y .kind) (argumentsFrom s xs (4 - (y .count + 1)) (viewSymbol (oneMore y w) .parameters) e)
+        → m ≡ argumentsFrom s xs (4 - (y .count + 1)) (more .parameters) e → r ≡ argumentsRead (y .kind) m
     more-reads s xs e f g =
-        let reads : Events.Symbol → Arguments = λ v. argumentsFrom s xs (4 - (y .count + 1)) (v .places) e in
+        let reads : Events.Symbol → Arguments = λ v. argumentsFrom s xs (4 - (y .count + 1)) (v .parameters) e in
         f ∙ ap (argumentsRead (y .kind)) (ap reads (coded-view more more-coded more-few) ∙ sym g)
 
 -- The empty symbol z with the kind k, and the arguments read behind it.
 module _ {z : Symbol} (h : z ≡ symbolOf noSymbol) (k : ℕ) where
   abbrev bare : Symbol
-  bare = record { kind = k; count = z .count; places = z .places }
+  bare = record { kind = k; count = z .count; parameters = z .parameters }
 
   abbrev bare-plain : Events.Symbol
-  bare-plain = record { kind = k; places = [] }
+  bare-plain = record { kind = k; parameters = [] }
 
   bare-coded : bare ≡ symbolOf bare-plain
   unfolding symbolOf
-  bare-coded = ap (λ (y : Symbol). record { kind = k; count = y .count; places = y .places }) h
+  bare-coded = ap (λ (y : Symbol). record { kind = k; count = y .count; parameters = y .parameters }) h
 
   pub bare-count : z .count ≡ 0
   unfolding symbolOf
@@ -176,16 +176,16 @@ module _ {z : Symbol} (h : z ≡ symbolOf noSymbol) (k : ℕ) where
   bare-kept = coded-kept bare-plain bare-coded zero-le
 
   pub bare-reads : (s : Bytes) (xs : List Span) (e : ℕ) {r : ArgumentsRead}
-      → r ≡ argumentsRead k (argumentsFrom s xs (4 - z .count) (viewSymbol bare .places) e) → r ≡ argumentsRead k (argumentsFrom s xs 4 [] e)
+      → r ≡ argumentsRead k (argumentsFrom s xs (4 - z .count) (viewSymbol bare .parameters) e) → r ≡ argumentsRead k (argumentsFrom s xs 4 [] e)
   bare-reads s xs e f =
       let j : 4 - z .count ≡ 4 = omega (arith, bare-count) in
-      let reads : ℕ → Events.Symbol → ArgumentsRead = λ j v. argumentsRead k (argumentsFrom s xs j (v .places) e) in
+      let reads : ℕ → Events.Symbol → ArgumentsRead = λ j v. argumentsRead k (argumentsFrom s xs j (v .parameters) e) in
       f ∙ ap₂ reads j (coded-view bare-plain bare-coded zero-le)
 
 -- `kindFrom` by its parts: the step k to KIND, the kind n, the arguments a. Shut, so that the arguments do not compute.
 kindBy : Scan.Step → ℕ → Arguments → Span → Lines.SymbolRead
 kindBy k n a x =
-    let whole : Lines.SymbolRead = record { step = a .step; name = x; symbol = record { kind = n; places = a .places } } in
+    let whole : Lines.SymbolRead = record { step = a .step; name = x; symbol = record { kind = n; parameters = a .parameters } } in
     let some = cond (eqb (a .step .fault) 0) whole (noSymbolRead (a .step)) in
     let kinded = cond (eqb n 0) (noSymbolRead (fail 2 (k .place))) some in
     cond (eqb (k .fault) 0) kinded (noSymbolRead k)

@@ -9,8 +9,8 @@ use lib.Dec.{eqb, ltb}
 use lib.ListN.{length, set, length-append}
 use Rattle.laws.specs.Lists.{all}
 use Rattle.laws.proofs.Lists.{all-more, either}
-use Rattle.meaning.specs.Events.{Place, ignored, names}
-use Rattle.meaning.specs.Book.{soundPlace}
+use Rattle.meaning.specs.Events.{Parameter, ignored, names}
+use Rattle.meaning.specs.Book.{soundParameter}
 use Rattle.form.specs.Text.{Bytes, Span, ignoredWord}
 use Rattle.form.specs.Form.{sameWord}
 use Rattle.form.specs.Scan.{Step, go, fail, part, wordEnd, nextWord, nameFault, kindOf}
@@ -26,12 +26,12 @@ use Rattle.lines.proofs.Known.{span-inside}
 use Rattle.lines.proofs.Gaps.{word-within, next-more}
 
 -- a word that is read as an argument is ignored or a declared variable
-argument-sound : (s : Bytes) (xs : List Span) (p e : ℕ) → eqb (argumentFault s xs p e) 0 ≡ true → soundPlace (length xs) (argumentOf s xs p e) ≡ true
+argument-sound : (s : Bytes) (xs : List Span) (p e : ℕ) → eqb (argumentFault s xs p e) 0 ≡ true → soundParameter (length xs) (argumentOf s xs p e) ≡ true
 argument-sound s xs p e =
     by (sameWord (part s p e) ignoredWord) (eqb (nameFault s p e) 0) (ltb (indexOf s xs (part s p e)) (length xs)) refl refl
   where
     by : (a b c : Bool) → eqb (nameFault s p e) 0 ≡ b → ltb (indexOf s xs (part s p e)) (length xs) ≡ c
-        → eqb (cond a 0 (cond b (cond c 0 5) (nameFault s p e))) 0 ≡ true → soundPlace (length xs) (cond a ignored (names (indexOf s xs (part s p e)))) ≡ true
+        → eqb (cond a 0 (cond b (cond c 0 5) (nameFault s p e))) 0 ≡ true → soundParameter (length xs) (cond a ignored (names (indexOf s xs (part s p e)))) ≡ true
     by true b c i j h = refl
     by false true true i j h = j
     by false true false i j h = absurd (false≢true h)
@@ -87,30 +87,30 @@ pub variables-ready : (s : Bytes) (xs : List Span) → length xs ≤ 4 → all (
     → Ready s (tableOf (bare xs)) × (viewTable (tableOf (bare xs)) ≡ bare xs)
 unfolding tableOf
 variables-ready s xs h i =
-    let b = view-table (bare xs) (record { fewVariables = h; fewSymbols = zero-le; paired = refl; fewPlaces = refl }) in (
+    let b = view-table (bare xs) (record { fewVariables = h; fewSymbols = zero-le; paired = refl; fewParameters = refl }) in (
       record {
         coded = ap tableOf (sym b);
         fewVariables = h;
         fewSymbols = zero-le;
         inText = rw b (rw (append-nil xs) i);
         declared = rw b;
-        fewPlaces = rw b;
+        fewParameters = rw b;
       },
       b,
     )
 
 -- at most n places, each ignored or a declared variable
 record ArgumentsSound (s : Bytes) (variables n : ℕ) (a : Arguments) : Type 0 where
-  pub few : length (a .places) ≤ n
-  pub declared : all (soundPlace variables) (a .places) ≡ true
+  pub few : length (a .parameters) ≤ n
+  pub declared : all (soundParameter variables) (a .parameters) ≡ true
   pub place : a .step .place ≤ length s
 
 module _ (s : Bytes) (xs : List Span) (n : ℕ) where
-  arguments-kept : (ps : List Place) (x : Step) → length ps ≤ n → all (soundPlace (length xs)) ps ≡ true → x .place ≤ length s
-      → ArgumentsSound s (length xs) n (record { step = x; places = ps })
+  arguments-kept : (ps : List Parameter) (x : Step) → length ps ≤ n → all (soundParameter (length xs)) ps ≡ true → x .place ≤ length s
+      → ArgumentsSound s (length xs) n (record { step = x; parameters = ps })
   arguments-kept ps x k i h = record { few = k; declared = i; place = h }
 
-  arguments-sound : (room : ℕ) (ps : List Place) (p : ℕ) → p ≤ length s → length ps + room ≤ n → all (soundPlace (length xs)) ps ≡ true
+  arguments-sound : (room : ℕ) (ps : List Parameter) (p : ℕ) → p ≤ length s → length ps + room ≤ n → all (soundParameter (length xs)) ps ≡ true
       → ArgumentsSound s (length xs) n (argumentsFrom s xs room ps p)
   arguments-sound zero ps p l k i =
       let q = nextWord s p in
@@ -133,8 +133,8 @@ module _ (s : Bytes) (xs : List Span) (n : ℕ) where
 -- a symbol's name inside the text, and its places
 record SymbolSound (s : Bytes) (variables : ℕ) (r : SymbolRead) : Type 0 where
   pub inText : inside (length s) (r .name) ≡ true
-  pub few : length (r .symbol .places) ≤ 4
-  pub declared : all (soundPlace variables) (r .symbol .places) ≡ true
+  pub few : length (r .symbol .parameters) ≤ 4
+  pub declared : all (soundParameter variables) (r .symbol .parameters) ≡ true
   pub place : r .step .place ≤ length s
 
 none-sound : (s : Bytes) (n : ℕ) (x : Step) → x .place ≤ length s → SymbolSound s n (noSymbolRead x)

@@ -18,7 +18,7 @@ variablesRead v =
 -- the arguments of a symbol of that kind
 abbrev pub argumentsRead : ℕ → Lines.Arguments → ArgumentsRead
 argumentsRead k a =
-    record { fault = a .step .fault; place = a .step .place; symbol = symbolOf (record { kind = k; places = a .places }) }
+    record { fault = a .step .fault; place = a .step .place; symbol = symbolOf (record { kind = k; parameters = a .parameters }) }
 
 abbrev pub symbolRead : Lines.SymbolRead → SymbolRead
 symbolRead r =

@@ -1,6 +1,6 @@
 // The reader of the lines before the pattern: `vars`, then `sym` lines, up to the word `match`. For the reader of books.
 use table::Name;
-use table::Place;
+use table::Parameter;
 use table::Symbol;
 use table::Table;
 ghost use mathlib.Core.Path.{_≡_};
@@ -12,7 +12,7 @@ ghost use Rattle.form.specs.Text.{ignoredWord, varsWord, symWord, matchWord};
 ghost use Rattle.form.specs.Form.{sameWord};
 ghost use Rattle.form.specs.Scan.{part, fail};
 ghost use Rattle.form.specs.Lines as Lines;
-ghost use Rattle.table.specs.Tables.{symbolOf, placeOf, spanOf, viewSymbol, viewTable, Ready};
+ghost use Rattle.table.specs.Tables.{symbolOf, parameterOf, spanOf, viewSymbol, viewTable, Ready};
 ghost use Rattle.lines.specs.Results.{linesRead, variablesRead, argumentsRead, symbolRead};
 
 // What was read of the lines: no fault and the place to go on from, or a fault's number and its place; and the table so far.
@@ -128,17 +128,17 @@ fn argument_fault(s: &[u8], t: Table, p: usize, e: usize) -> usize
 }
 
 // The place that an argument word stands for.
-fn argument_of(s: &[u8], t: Table, p: usize, e: usize) -> Place
+fn argument_of(s: &[u8], t: Table, p: usize, e: usize) -> Parameter
     requires { ⌜ Ready (now s) t × (p ≤ e) × (e ≤ length (now s)) ⌝ }
-    ensures { λ r. ⌜ r ≡ placeOf (Lines.argumentOf (now (s .entry)) (viewTable t .variables) p e) ⌝ }
+    ensures { λ r. ⌜ r ≡ parameterOf (Lines.argumentOf (now (s .entry)) (viewTable t .variables) p e) ⌝ }
 {
     if is_ignored(s, p, e) {
-        return Place { tag: 0, number: 0 };
+        return Parameter { tag: 0, number: 0 };
     }
     let names = t.names;
     let to = t.variables;
     let v = table::find(s, names, 0, to, p, e);
-    Place {
+    Parameter {
         tag: 1,
         number: v as u32,
     }
@@ -148,7 +148,7 @@ fn argument_of(s: &[u8], t: Table, p: usize, e: usize) -> Place
 fn arguments_from(s: &[u8], t: Table, y: Symbol, p: usize) -> ArgumentsRead
     requires { ⌜ Ready (now s) t × (y ≡ symbolOf (viewSymbol y)) × (y .count ≤ parameterLimit) × (p ≤ length (now s)) ⌝ }
     ensures { λ r. ⌜ r ≡ argumentsRead (y .kind) (Lines.argumentsFrom (now (s .entry)) (viewTable t .variables)
-        (parameterLimit - y .count) (viewSymbol y .places) p) ⌝ }
+        (parameterLimit - y .count) (viewSymbol y .parameters) p) ⌝ }
 {
     let n = text::next_word(s, p);
     let q = n.place;
@@ -184,7 +184,7 @@ fn arguments_from(s: &[u8], t: Table, y: Symbol, p: usize) -> ArgumentsRead
         };
     }
     let mut more = y;
-    more.places[count] = argument_of(s, t, q, e);
+    more.parameters[count] = argument_of(s, t, q, e);
     more.count = count + 1;
     arguments_from(s, t, more, e)
 }

@@ -18,7 +18,7 @@ use Rattle.pattern.specs.Regex.{In}
 use Rattle.pattern.specs.Positions.{size, symbols, ending, following, symbolAt, Has, Reach, start, next as onto}
 use Rattle.pattern.proofs.Masks.{Among, beginning-among, ending-among, following-among, symbolAt-list, symbols-length}
 use Rattle.pattern.proofs.Spell.{positions-left}
-use Rattle.meaning.specs.Events.{Place, ignored, names, Symbol, Event, Valuation}
+use Rattle.meaning.specs.Events.{Parameter, ignored, names, Symbol, Event, Valuation}
 use Rattle.meaning.specs.Events.{word32, wellFormed, isValuation, matches, equalAll, holds, concerns}
 use Rattle.meaning.specs.Meaning.{Tracematch, noSymbol, concerning, stretch, Reading, nothing, next, Match}
 use Rattle.meaning.specs.Book.{Book, bookOf, Proper, binds, positions, beginsAt, endsAt, followsAt, symbolOf}
@@ -246,7 +246,7 @@ completed-match tm ok σ t e =
     (λ h. (c .0 h .0, m .1 (c .0 h .1)), λ h. c .1 (h .0, m .0 (h .1)))
 
 -- what a place binds is an argument
-bound-argument : (σ : Valuation) (v : ℕ) (ps : List Place) (xs : List ℕ) → length ps ≡ length xs → any (binds v) ps ≡ true
+bound-argument : (σ : Valuation) (v : ℕ) (ps : List Parameter) (xs : List ℕ) → length ps ≡ length xs → any (binds v) ps ≡ true
     → equalAll σ ps xs ≡ true → List·Memᴰ (getD σ v 0) xs
 bound-argument σ v [] xs n b h = absurd (false≢true b)
 bound-argument σ v (p ∷ ps) [] n b h = absurd (omega arith)
@@ -257,13 +257,13 @@ bound-argument σ v (names u ∷ ps) (x ∷ xs) n b h =
     (λ k. List·Memᴰ·tail (bound-argument σ v ps xs (omega arith) k (hs .1))) (or-true-split (eqb v u) (any (binds v) ps) b)
 
 -- so a variable that a symbol binds has an argument of each event on which the symbol holds
-holds-argument : (s : Symbol) (e : Event) (σ : Valuation) (v : ℕ) → holds s e σ ≡ true → any (binds v) (s .places) ≡ true
+holds-argument : (s : Symbol) (e : Event) (σ : Valuation) (v : ℕ) → holds s e σ ≡ true → any (binds v) (s .parameters) ≡ true
     → List·Memᴰ (getD σ v 0) (e .args)
 unfolding holds matches
 holds-argument s e σ v h b =
-    let hs = and-true-split (matches s e) (equalAll σ (s .places) (e .args)) h in
-    let n = eqb-true (length (s .places)) (length (e .args)) (and-true-split (eqb (s .kind) (e .kind)) _ (hs .0) .1) in
-    bound-argument σ v (s .places) (e .args) n b (hs .1)
+    let hs = and-true-split (matches s e) (equalAll σ (s .parameters) (e .args)) h in
+    let n = eqb-true (length (s .parameters)) (length (e .args)) (and-true-split (eqb (s .kind) (e .kind)) _ (hs .0) .1) in
+    bound-argument σ v (s .parameters) (e .args) n b (hs .1)
 
 wellFormed-args : (e : Event) → wellFormed e ≡ true → all word32 (e .args) ≡ true
 unfolding wellFormed

@@ -17,7 +17,7 @@ use Rattle.pattern.specs.Positions as Positions
 use Rattle.pattern.specs.Positions.{Has, Reach, start, next}
 use Rattle.pattern.proofs.Masks.{Among, beginning-among, following-among, symbolAt-list}
 use Rattle.pattern.proofs.Spell.{positions-left}
-use Rattle.meaning.specs.Events.{Place, ignored, names, Symbol, Event, Demand, Constraint, never, demands, matches, demandsOf, consistent, constraintOf}
+use Rattle.meaning.specs.Events.{Parameter, ignored, names, Symbol, Event, Demand, Constraint, never, demands, matches, demandsOf, consistent, constraintOf}
 use Rattle.meaning.specs.Meaning.{Tracematch, noSymbol}
 use Rattle.meaning.specs.Book.{Book, bookOf, Proper, binds, positions, endsAt, followsAt, symbolOf}
 use Rattle.meaning.specs.Labels.{Entry, bound, free, Disjunct, entryOf, isFree, bind, metAll, meets, met}
@@ -59,7 +59,7 @@ metAll-binds (d ∷ ds) D v h k =
     (or-true-split (eqb v (d .variable)) _ k)
 
 -- the variables that a symbol binds are those of its demands on an event with as many arguments
-demands-of : (v : ℕ) (ps : List Place) (xs : List ℕ) → length ps ≡ length xs → any (λ d. eqb v (d .variable)) (demandsOf ps xs) ≡ any (binds v) ps
+demands-of : (v : ℕ) (ps : List Parameter) (xs : List ℕ) → length ps ≡ length xs → any (λ d. eqb v (d .variable)) (demandsOf ps xs) ≡ any (binds v) ps
 demands-of v [] xs h = refl
 demands-of v (p ∷ ps) [] h = absurd (omega arith)
 demands-of v (ignored ∷ ps) (x ∷ xs) h = demands-of v ps xs (omega arith)
@@ -69,20 +69,20 @@ met-keeps : (c : Constraint) (D : Disjunct) (v : ℕ) → v < length D → hasVa
 met-keeps never D v h k = k
 met-keeps (demands ds) D v h k = metAll-keeps ds D v h k
 
-matches-length : (s : Symbol) (e : Event) → matches s e ≡ true → length (s .places) ≡ length (e .args)
+matches-length : (s : Symbol) (e : Event) → matches s e ≡ true → length (s .parameters) ≡ length (e .args)
 unfolding matches
 matches-length s e h = eqb-true _ _ (and-true-split (eqb (s .kind) (e .kind)) _ h .1)
 
-met-binds : (s : Symbol) (e : Event) (D : Disjunct) (v : ℕ) → v < length D → meets D (constraintOf s e) ≡ true → any (binds v) (s .places) ≡ true
+met-binds : (s : Symbol) (e : Event) (D : Disjunct) (v : ℕ) → v < length D → meets D (constraintOf s e) ≡ true → any (binds v) (s .parameters) ≡ true
     → hasValue (met D (constraintOf s e)) v
 unfolding constraintOf
 met-binds s e D v h m k = go (matches s e && consistent ds) refl m
   where
     ds : List Demand
-    ds = demandsOf (s .places) (e .args)
+    ds = demandsOf (s .parameters) (e .args)
 
     go : (t : Bool) → (matches s e && consistent ds) ≡ t → meets D (cond t (demands ds) never) ≡ true → hasValue (met D (cond t (demands ds) never)) v
-    go true q n = metAll-binds ds D v h (demands-of v (s .places) (e .args) (matches-length s e (and-true-split (matches s e) (consistent ds) q .0)) ∙ k)
+    go true q n = metAll-binds ds D v h (demands-of v (s .parameters) (e .args) (matches-length s e (and-true-split (matches s e) (consistent ds) q .0)) ∙ k)
     go false q n = absurd (false≢true n)
 
 -- past a symbol the same variables are free
@@ -102,7 +102,7 @@ same-value D E e v k = sym (List·getD-map isFree E v (free [])) ∙ ap (λ l. g
 module _ (tm : Tracematch) where
   -- some symbol of the word binds v
   abbrev bindsIn : ℕ → List ℕ → Bool
-  bindsIn v w = any (λ a. any (binds v) (getD (tm .symbols) a noSymbol .places)) w
+  bindsIn v w = any (λ a. any (binds v) (getD (tm .symbols) a noSymbol .parameters)) w
 
   -- a path to position p whose symbols' variables have values in D
   record Backed (p : ℕ) (D : Disjunct) : Type 0 where

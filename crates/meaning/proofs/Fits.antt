@@ -13,9 +13,9 @@ use Rattle.laws.specs.Lists.{any, all, keep}
 use Rattle.laws.proofs.Lists.{and-true-split, and-swap, and-front, eqb-swap, any-map, all-map, any-keep, any-and, any-agree, all-at, all-of}
 use Rattle.laws.proofs.Order.{compare-order}
 use Rattle.laws.proofs.Sets.{any-insert}
-use Rattle.meaning.specs.Events.{Place, ignored, names, Symbol, Event, Demand, Constraint, never, demands, demandsOf, matches, consistent}
+use Rattle.meaning.specs.Events.{Parameter, ignored, names, Symbol, Event, Demand, Constraint, never, demands, demandsOf, matches, consistent}
 use Rattle.meaning.specs.Events.{constraintOf, Valuation, agrees, satisfies}
-use Rattle.meaning.specs.Book.{soundPlace}
+use Rattle.meaning.specs.Book.{soundParameter}
 use Rattle.meaning.specs.Labels.{Entry, bound, free, Disjunct, freeDisjunct, entryOf, isFree, admits, bind, meetsAll, metAll, meets, met}
 use Rattle.meaning.specs.Labels.{skipOne, excluding, exclude}
 use Rattle.meaning.specs.Rows.{valuationOf}
@@ -32,20 +32,20 @@ abbrev pub inRange : ℕ → Constraint → Bool
 inRange n never = true
 inRange n (demands ds) = all (λ d. ltb (d .variable) n) ds
 
-places-inRange : (n : ℕ) (ps : List Place) (xs : List ℕ) → all (soundPlace n) ps ≡ true → all (λ d. ltb (d .variable) n) (demandsOf ps xs) ≡ true
-places-inRange n [] xs h = refl
-places-inRange n (p ∷ ps) [] h = refl
-places-inRange n (ignored ∷ ps) (x ∷ xs) h = places-inRange n ps xs h
-places-inRange n (names v ∷ ps) (x ∷ xs) h =
-    let hs = and-true-split (ltb v n) (all (soundPlace n) ps) h in ap₂ _&&_ (hs .0) (places-inRange n ps xs (hs .1))
+parameters-inRange : (n : ℕ) (ps : List Parameter) (xs : List ℕ) → all (soundParameter n) ps ≡ true → all (λ d. ltb (d .variable) n) (demandsOf ps xs) ≡ true
+parameters-inRange n [] xs h = refl
+parameters-inRange n (p ∷ ps) [] h = refl
+parameters-inRange n (ignored ∷ ps) (x ∷ xs) h = parameters-inRange n ps xs h
+parameters-inRange n (names v ∷ ps) (x ∷ xs) h =
+    let hs = and-true-split (ltb v n) (all (soundParameter n) ps) h in ap₂ _&&_ (hs .0) (parameters-inRange n ps xs (hs .1))
 
 -- a symbol over declared variables demands values of those only
-pub constraint-inRange : (n : ℕ) (s : Symbol) (e : Event) → all (soundPlace n) (s .places) ≡ true → inRange n (constraintOf s e) ≡ true
+pub constraint-inRange : (n : ℕ) (s : Symbol) (e : Event) → all (soundParameter n) (s .parameters) ≡ true → inRange n (constraintOf s e) ≡ true
 unfolding constraintOf
-constraint-inRange n s e h = go (matches s e && consistent (demandsOf (s .places) (e .args)))
+constraint-inRange n s e h = go (matches s e && consistent (demandsOf (s .parameters) (e .args)))
   where
-    go : (b : Bool) → inRange n (cond b (demands (demandsOf (s .places) (e .args))) never) ≡ true
-    go true = places-inRange n (s .places) (e .args) h
+    go : (b : Bool) → inRange n (cond b (demands (demandsOf (s .parameters) (e .args))) never) ≡ true
+    go true = parameters-inRange n (s .parameters) (e .args) h
     go false = refl
 
 metAll-length : (D : Disjunct) (ds : List Demand) → length (metAll D ds) ≡ length D

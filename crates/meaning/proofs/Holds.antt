@@ -9,7 +9,7 @@ use lib.ListN.{getD}
 use borrow.Author.Tests.{eqb-true, eq-eqb}
 use Rattle.laws.specs.Lists.{all}
 use Rattle.laws.proofs.Lists.{same-test, all-of, all-at, and-true-split}
-use Rattle.meaning.specs.Events.{Place, ignored, names, Symbol, Event, Demand, never, demands, matches, demandsOf, compatible, consistent}
+use Rattle.meaning.specs.Events.{Parameter, ignored, names, Symbol, Event, Demand, never, demands, matches, demandsOf, compatible, consistent}
 use Rattle.meaning.specs.Events.{constraintOf, Valuation, agrees, satisfies, equalAll, holds}
 
 -- demands that one valuation meets are not unequal on a variable
@@ -30,7 +30,7 @@ met-consistent σ (d ∷ ds) h =
     ap₂ _&&_ (all-of (compatible d) ds (λ c m. met-compatible σ d c g (all-at (agrees σ) k m))) (met-consistent σ ds k)
 
 -- the demands of a symbol's places are what the places ask
-demands-equal : (σ : Valuation) (ps : List Place) (xs : List ℕ) → all (agrees σ) (demandsOf ps xs) ≡ equalAll σ ps xs
+demands-equal : (σ : Valuation) (ps : List Parameter) (xs : List ℕ) → all (agrees σ) (demandsOf ps xs) ≡ equalAll σ ps xs
 demands-equal σ [] xs = refl
 demands-equal σ (p ∷ ps) [] = refl
 demands-equal σ (ignored ∷ ps) (x ∷ xs) = demands-equal σ ps xs
@@ -39,10 +39,10 @@ demands-equal σ (names v ∷ ps) (x ∷ xs) = ap (λ b. eqb (getD σ v 0) x && 
 pub holds-satisfies : (s : Symbol) (e : Event) (σ : Valuation) → holds s e σ ≡ satisfies (constraintOf s e) σ
 unfolding holds constraintOf
 holds-satisfies s e σ =
-    ap (λ b. matches s e && b) (sym (demands-equal σ (s .places) (e .args))) ∙ go (matches s e) (consistent ds) (met-consistent σ ds)
+    ap (λ b. matches s e && b) (sym (demands-equal σ (s .parameters) (e .args))) ∙ go (matches s e) (consistent ds) (met-consistent σ ds)
   where
     ds : List Demand
-    ds = demandsOf (s .places) (e .args)
+    ds = demandsOf (s .parameters) (e .args)
 
     go : (a b : Bool) → (all (agrees σ) ds ≡ true → b ≡ true) → (a && all (agrees σ) ds) ≡ satisfies (cond (a && b) (demands ds) never) σ
     go true true h = refl

@@ -20,7 +20,7 @@ use Rattle.pattern.specs.Positions as Positions
 use Rattle.pattern.proofs.Masks.{beginning-among, ending-among, following-among, beginning-below, ending-below, following-below}
 use Rattle.pattern.proofs.Masks.{size-pos, symbols-length}
 use Rattle.pattern.proofs.Words.{empty-word}
-use Rattle.meaning.specs.Events.{Place, ignored, names, Symbol, Event, word32, wellFormed, Demand, Constraint, never, demands}
+use Rattle.meaning.specs.Events.{Parameter, ignored, names, Symbol, Event, word32, wellFormed, Demand, Constraint, never, demands}
 use Rattle.meaning.specs.Events.{matches, demandsOf, consistent, constraintOf}
 use Rattle.meaning.specs.Meaning.{Tracematch}
 use Rattle.meaning.specs.Book.{Book, bookOf, Proper, symbolOf, soundMask, soundBook}
@@ -53,7 +53,7 @@ module _ {A : Type 0} (f : A → Bool) where
 abbrev asksWord : Demand → Bool
 asksWord d = word32 (d .value)
 
-demands-words : (ps : List Place) (xs : List ℕ) → all word32 xs ≡ true → all asksWord (demandsOf ps xs) ≡ true
+demands-words : (ps : List Parameter) (xs : List ℕ) → all word32 xs ≡ true → all asksWord (demandsOf ps xs) ≡ true
 demands-words [] xs h = refl
 demands-words (p ∷ ps) [] h = refl
 demands-words (ignored ∷ ps) (x ∷ xs) h = demands-words ps xs (and-true-split (word32 x) (all word32 xs) h .1)
@@ -63,10 +63,10 @@ demands-words (names v ∷ ps) (x ∷ xs) h =
 
 constraint-words : (s : Symbol) (e : Event) → wellFormed e ≡ true → all asksWord (asked (constraintOf s e)) ≡ true
 unfolding constraintOf wellFormed
-constraint-words s e h = go (matches s e && consistent (demandsOf (s .places) (e .args)))
+constraint-words s e h = go (matches s e && consistent (demandsOf (s .parameters) (e .args)))
   where
-    go : (t : Bool) → all asksWord (asked (cond t (demands (demandsOf (s .places) (e .args))) never)) ≡ true
-    go true = demands-words (s .places) (e .args) (and-true-split (leb 1 (e .kind) && leb (e .kind) 255 && leb (length (e .args)) 4) _ h .1)
+    go : (t : Bool) → all asksWord (asked (cond t (demands (demandsOf (s .parameters) (e .args))) never)) ≡ true
+    go true = demands-words (s .parameters) (e .args) (and-true-split (leb 1 (e .kind) && leb (e .kind) 255 && leb (length (e .args)) 4) _ h .1)
     go false = refl
 
 -- what is sound of an entry but for the number of its exclusions

@@ -14,7 +14,7 @@ use Rattle.laws.specs.Lists.{any, all, numbers}
 use Rattle.laws.proofs.Bits.{bit-zero, bit-join, bit-single-same, bit-single-other}
 use Rattle.laws.proofs.Lists.{all-at, all-of, mem-numbers}
 use Rattle.pattern.proofs.Words as Words
-use Rattle.meaning.specs.Events.{Place, ignored, names}
+use Rattle.meaning.specs.Events.{Parameter, ignored, names}
 use Rattle.meaning.specs.Meaning.{Tracematch, noSymbol}
 use Rattle.meaning.specs.Book.{Proper, isProper, binds, boundIn}
 
@@ -22,7 +22,7 @@ use Rattle.meaning.specs.Book.{Proper, isProper, binds, boundIn}
 bit-single : (v u : ℕ) → bit v (single u) ≡ eqb v u
 bit-single v u = dite (ℕ-discrete v u) (λ e. rw (e, bit-single-same, eq-eqb u u refl)) (λ n. bit-single-other u v n ∙ sym (ne-eqb v u n))
 
-pub bit-boundIn : (v : ℕ) (ps : List Place) → bit v (boundIn ps) ≡ any (binds v) ps
+pub bit-boundIn : (v : ℕ) (ps : List Parameter) → bit v (boundIn ps) ≡ any (binds v) ps
 bit-boundIn v [] = bit-zero v
 bit-boundIn v (ignored ∷ ps) = bit-boundIn v ps
 bit-boundIn v (names u ∷ ps) = bit-join v (single u) (boundIn ps) ∙ ap₂ _||_ (bit-single v u) (bit-boundIn v ps)
@@ -39,6 +39,6 @@ pub proper-test : (tm : Tracematch) → (isProper tm ≡ true) ↔ Proper tm
 unfolding isProper
 proper-test tm =
     let empty = not-test _ (Words.empty-word (tm .pattern)) in
-    let vars : ℕ → ℕ = λ a. boundIn (getD (tm .symbols) a noSymbol .places) in
+    let vars : ℕ → ℕ = λ a. boundIn (getD (tm .symbols) a noSymbol .parameters) in
     let bound = simp bit-boundIn at (Words.binding vars (tm .pattern)) in
     simp and-eq-true-iff (simp (empty, all-below) (simp bound (λ p. search leb-true, λ p. search le-leb)))

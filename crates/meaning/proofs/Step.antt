@@ -13,7 +13,7 @@ use Rattle.laws.proofs.Lists.{and-true-split, any-append, any-map, any-keep, an
 use Rattle.laws.proofs.Sets.{any-insertAll}
 use Rattle.meaning.specs.Events.{Symbol, Event, Constraint, constraintOf, Valuation, satisfies, holds, concerns}
 use Rattle.meaning.specs.Meaning.{noSymbol}
-use Rattle.meaning.specs.Book.{Book, soundPlace, soundSymbol, positions, beginsAt, followsAt, goesOn, symbolOf}
+use Rattle.meaning.specs.Book.{Book, soundParameter, soundSymbol, positions, beginsAt, followsAt, goesOn, symbolOf}
 use Rattle.meaning.specs.Labels.{free, Disjunct, freeDisjunct, compareDisjuncts, meets, met, skipOne, skipBy, skipThrough}
 use Rattle.meaning.specs.Labels.{Held, heldAt, labelOf, sources, stepSet, skipSet, newLabel, newHeld}
 use Rattle.meaning.proofs.Holds.{holds-satisfies}
@@ -45,7 +45,7 @@ skipThrough-long n (c ∷ cs) l h = skipThrough-long n cs (skipBy c l) (skipBy-l
 pub symbol-inRange : (n : ℕ) (s : Symbol) (e : Event) → soundSymbol n s ≡ true → inRange n (constraintOf s e) ≡ true
 unfolding soundSymbol
 symbol-inRange n s e h =
-    constraint-inRange n s e (and-true-split (leb 1 (s .kind) && leb (s .kind) 255 && leb (length (s .places)) 4) (all (soundPlace n) (s .places)) h .1)
+    constraint-inRange n s e (and-true-split (leb 1 (s .kind) && leb (s .kind) 255 && leb (length (s .parameters)) 4) (all (soundParameter n) (s .parameters)) h .1)
 
 -- a symbol by its number; out of range it is one that has no places
 pub numbered-inRange : (n : ℕ) (l : List Symbol) (i : ℕ) (e : Event) → all (soundSymbol n) l ≡ true

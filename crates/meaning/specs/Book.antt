@@ -12,7 +12,7 @@ use Rattle.laws.specs.Lists.{any, all, numbers}
 use Rattle.pattern.specs.Regex.{In, nullable, boundBy}
 use Rattle.pattern.specs.Positions as Positions
 use Rattle.meaning.specs.Limits.{variableLimit, symbolLimit, kindLimit, parameterLimit}
-use Rattle.meaning.specs.Events.{Place, ignored, names, Symbol}
+use Rattle.meaning.specs.Events.{Parameter, ignored, names, Symbol}
 use Rattle.meaning.specs.Meaning.{Tracematch, noSymbol}
 
 -- document 01, "Labels and room": the pattern as numbered positions and sets of them
@@ -82,25 +82,25 @@ abbrev pub endCount : Book → ℕ
 endCount b = ones (b .ends)
 
 -- the variable a place binds
-abbrev pub binds : ℕ → Place → Bool
+abbrev pub binds : ℕ → Parameter → Bool
 binds v ignored = false
 binds v (names u) = eqb v u
 
 -- the variables that a symbol binds, one bit to a variable
-abbrev pub boundIn : List Place → ℕ
+abbrev pub boundIn : List Parameter → ℕ
 boundIn [] = 0
 boundIn (ignored ∷ ps) = boundIn ps
 boundIn (names v ∷ ps) = join (single v) (boundIn ps)
 
 -- "KIND is 1 to 255 … ARGS are 0 to 4 words, each a declared variable or `_`"
-abbrev pub soundPlace : ℕ → Place → Bool
-soundPlace variables ignored = true
-soundPlace variables (names v) = ltb v variables
+abbrev pub soundParameter : ℕ → Parameter → Bool
+soundParameter variables ignored = true
+soundParameter variables (names v) = ltb v variables
 
 -- a symbol with every number "in its declared range"
 unfoldable pub soundSymbol : ℕ → Symbol → Bool
 soundSymbol variables s =
-    leb 1 (s .kind) && leb (s .kind) kindLimit && leb (length (s .places)) parameterLimit && all (soundPlace variables) (s .places)
+    leb 1 (s .kind) && leb (s .kind) kindLimit && leb (length (s .parameters)) parameterLimit && all (soundParameter variables) (s .parameters)
 
 -- What every accepted text declares: "0 to 4 variable names", "1 to 16 lines `sym NAME KIND ARGS`", declared names in the
 -- pattern, "At most 31 symbol occurrences", "No word of the pattern may be empty, and each word must contain, for each
@@ -114,7 +114,7 @@ pub record Proper (tm : Tracematch) : Type 0 where
   pub occurrences : Positions.size (tm .pattern) ≤ Positions.occurrenceLimit
   pub nonempty : In (tm .pattern) [] → ⊥
   pub binding : (v : ℕ) → v < tm .variables → (w : List ℕ) → In (tm .pattern) w
-      → any (λ a. any (binds v) (getD (tm .symbols) a noSymbol .places)) w ≡ true
+      → any (λ a. any (binds v) (getD (tm .symbols) a noSymbol .parameters)) w ≡ true
 
 -- the same, computed: the flag of the empty word and the mask of bound variables decide what `Proper` says of words
 unfoldable pub isProper : Tracematch → Bool
@@ -124,7 +124,7 @@ isProper tm =
     && all (λ a. ltb a (length (tm .symbols))) (Positions.symbols (tm .pattern))
     && leb (Positions.size (tm .pattern)) Positions.occurrenceLimit
     && not (nullable (tm .pattern))
-    && all (λ v. bit v (boundBy (λ a. boundIn (getD (tm .symbols) a noSymbol .places)) (tm .pattern))) (numbers 0 (tm .variables))
+    && all (λ v. bit v (boundBy (λ a. boundIn (getD (tm .symbols) a noSymbol .parameters)) (tm .pattern))) (numbers 0 (tm .variables))
 
 -- a set of positions 1 to n
 abbrev pub soundMask : ℕ → ℕ → Bool

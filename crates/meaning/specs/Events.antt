@@ -8,14 +8,14 @@ use Rattle.laws.specs.Lists.{any, all}
 use Rattle.meaning.specs.Limits.{kindLimit, argumentLimit}
 
 -- an argument place of a symbol: `_` ("that argument is ignored"), or a declared variable by its number from 0
-pub data Place : Type 0 where
-  ignored : Place
-  names : ℕ → Place
+pub data Parameter : Type 0 where
+  ignored : Parameter
+  names : ℕ → Parameter
 
 -- `sym NAME KIND ARGS`
 pub record Symbol : Type 0 where
   pub kind : ℕ
-  pub places : List Place
+  pub parameters : List Parameter
 
 -- an event record: kind and arguments
 pub record Event : Type 0 where
@@ -42,15 +42,15 @@ pub data Constraint : Type 0 where
 
 -- "A symbol matches an event when the kinds are equal and the event's argument count equals the symbol's."
 unfoldable pub matches : Symbol → Event → Bool
-matches s e = eqb (s .kind) (e .kind) && eqb (length (s .places)) (length (e .args))
+matches s e = eqb (s .kind) (e .kind) && eqb (length (s .parameters)) (length (e .args))
 
 -- what a place asks of its argument
-abbrev pub demandOf : Place → ℕ → List Demand
+abbrev pub demandOf : Parameter → ℕ → List Demand
 demandOf ignored x = []
 demandOf (names v) x = record { variable = v; value = x } ∷ []
 
 -- "'variable equals argument' for each bound place"
-abbrev pub demandsOf : List Place → List ℕ → List Demand
+abbrev pub demandsOf : List Parameter → List ℕ → List Demand
 demandsOf [] xs = []
 demandsOf (p ∷ ps) [] = []
 demandsOf (p ∷ ps) (x ∷ xs) = demandOf p x ++ demandsOf ps xs
@@ -66,7 +66,7 @@ consistent (d ∷ ds) = all (compatible d) ds && consistent ds
 
 -- the symbol's constraint on an event; "as does no match"
 unfoldable pub constraintOf : Symbol → Event → Constraint
-constraintOf s e = let ds = demandsOf (s .places) (e .args) in cond (matches s e && consistent ds) (demands ds) never
+constraintOf s e = let ds = demandsOf (s .parameters) (e .args) in cond (matches s e && consistent ds) (demands ds) never
 
 -- a number for each variable, by declaration
 abbrev pub Valuation : Type 0
@@ -87,12 +87,12 @@ satisfies (demands ds) σ = all (agrees σ) ds
 
 -- "'variable equals argument' for each bound place", read for a valuation straight from the symbol and the event: no demand is
 -- gathered and none is compared with another. An ignored place asks nothing.
-abbrev pub equalAt : Valuation → Place → ℕ → Bool
+abbrev pub equalAt : Valuation → Parameter → ℕ → Bool
 equalAt σ ignored x = true
 equalAt σ (names v) x = eqb (getD σ v 0) x
 
 -- the same at each place of a symbol
-abbrev pub equalAll : Valuation → List Place → List ℕ → Bool
+abbrev pub equalAll : Valuation → List Parameter → List ℕ → Bool
 equalAll σ [] xs = true
 equalAll σ (p ∷ ps) [] = true
 equalAll σ (p ∷ ps) (x ∷ xs) = equalAt σ p x && equalAll σ ps xs
@@ -100,7 +100,7 @@ equalAll σ (p ∷ ps) (x ∷ xs) = equalAt σ p x && equalAll σ ps xs
 -- The declarative meaning's own word for "the symbol's constraint on the event holds under the valuation": the symbol matches, and each
 -- bound place's variable equals its argument. That the matcher's constraint says the same is a law (../proofs/Holds.antt).
 unfoldable pub holds : Symbol → Event → Valuation → Bool
-holds s e σ = matches s e && equalAll σ (s .places) (e .args)
+holds s e σ = matches s e && equalAll σ (s .parameters) (e .args)
 
 -- "An event concerns a valuation if some symbol's constraint holds under it."
 unfoldable pub concerns : List Symbol → Event → Valuation → Bool

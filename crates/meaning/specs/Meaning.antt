@@ -18,7 +18,7 @@ pub record Tracematch : Type 0 where
 
 -- no event and no symbol, for places that hold none
 abbrev pub noSymbol : Symbol
-noSymbol = record { kind = 0; places = [] }
+noSymbol = record { kind = 0; parameters = [] }
 
 -- the same for events
 abbrev pub noEvent : Event

@@ -4,7 +4,7 @@ use mathlib.Core.Bool.{true, false, cond}
 use mathlib.Core.List.{List, [], _∷_}
 use Prim.Native.Nat.{ℕ}
 use Rattle.pattern.specs.Regex.{Regex, lit, cat, star, plus, opt}
-use Rattle.meaning.specs.Events.{Place, ignored, names, Symbol, Event, Valuation}
+use Rattle.meaning.specs.Events.{Parameter, ignored, names, Symbol, Event, Valuation}
 use Rattle.meaning.specs.Meaning.{Tracematch}
 use Rattle.meaning.specs.Book.{Book}
 use Rattle.meaning.specs.Labels.{Held, heldAt, bound, free, newHeld}
@@ -31,17 +31,17 @@ pub record Case : Type 0 where
   pub events : List Event
   pub expected : List Answer
 
-abbrev symbol : ℕ → List Place → Symbol
-symbol k ps = record { kind = k; places = ps }
+abbrev symbol : ℕ → List Parameter → Symbol
+symbol k ps = record { kind = k; parameters = ps }
 
 abbrev event : ℕ → List ℕ → Event
 event k xs = record { kind = k; args = xs }
 
 -- variables d = 0 and s = 1
-abbrev d : Place
+abbrev d : Parameter
 d = names 0
 
-abbrev s : Place
+abbrev s : Parameter
 s = names 1
 
 -- B1: load 1 d s, drop 2 d, clean 3 d

@@ -10,7 +10,7 @@ use lib.ListN.{length, length-map, length-take, length-drop}
 use Rattle.laws.specs.Lists.{all}
 use Rattle.laws.proofs.Lists.{and-true-split, all-append, all-map, all-at, all-of}
 use Rattle.meaning.specs.Events.{Symbol}
-use Rattle.meaning.specs.Book.{soundPlace, soundSymbol}
+use Rattle.meaning.specs.Book.{soundParameter, soundSymbol}
 use Rattle.form.specs.Text.{Bytes, Span, SymbolLine, Declarations, isName, symbolOf, variableSpans, symbolSpans, symLine}
 use Rattle.form.specs.Lines.{linesOf, bytesAt, declaredTable}
 use Rattle.form.proofs.Header.{Header, header-read, header-found, header-names}
@@ -47,18 +47,18 @@ names-inside s (x ∷ xs) (w ∷ ws) e k n =
     ap₂ _&&_ (le-leb (x .start + x .size) (length s) (omega (arith, nonempty w (a .0)))) (names-inside s xs ws (cc) (cc) (a .1))
 
 -- a sound symbol has at most 4 places, each ignored or a declared variable
-sound-places : (n : ℕ) (y : Symbol) → soundSymbol n y ≡ true → (leb (length (y .places)) 4 ≡ true) × (all (soundPlace n) (y .places) ≡ true)
+sound-parameters : (n : ℕ) (y : Symbol) → soundSymbol n y ≡ true → (leb (length (y .parameters)) 4 ≡ true) × (all (soundParameter n) (y .parameters) ≡ true)
 unfolding soundSymbol
-sound-places n y h =
-    let a = and-true-split (leb 1 (y .kind) && leb (y .kind) 255 && leb (length (y .places)) 4) (all (soundPlace n) (y .places)) h in
-    (and-true-split (leb 1 (y .kind) && leb (y .kind) 255) (leb (length (y .places)) 4) (a .0) .1, a .1)
+sound-parameters n y h =
+    let a = and-true-split (leb 1 (y .kind) && leb (y .kind) 255 && leb (length (y .parameters)) 4) (all (soundParameter n) (y .parameters)) h in
+    (and-true-split (leb 1 (y .kind) && leb (y .kind) 255) (leb (length (y .parameters)) 4) (a .0) .1, a .1)
 
 module _ (s : Bytes) (d : Declarations) (h : Header s d) where
   sound : (y : Symbol) → List·Memᴰ y (map symbolOf (d .symbols))
-      → (leb (length (y .places)) 4 ≡ true) × (all (soundPlace (length (d .variables))) (y .places) ≡ true)
+      → (leb (length (y .parameters)) 4 ≡ true) × (all (soundParameter (length (d .variables))) (y .parameters) ≡ true)
   sound y m =
       let n = length (d .variables) in
-      sound-places n y (all-at (soundSymbol n) (all-map (soundSymbol n) symbolOf (d .symbols) ∙ h .symbols) m)
+      sound-parameters n y (all-at (soundSymbol n) (all-map (soundSymbol n) symbolOf (d .symbols) ∙ h .symbols) m)
 
   variables-count : length (declaredTable d .variables) ≡ length (d .variables)
   variables-count = same-count (declaredTable d .variables) (d .variables) (variable-sizes 5 (d .variables))
@@ -73,7 +73,7 @@ module _ (s : Bytes) (d : Declarations) (h : Header s d) where
         fewVariables = omega (arith, variables-count, h .fewVariables);
         fewSymbols = omega (arith, b, h .fewSymbols);
         paired = a ∙ sym b;
-        fewPlaces = all-of _ (t .table) λ y m. sound y m .0;
+        fewParameters = all-of _ (t .table) λ y m. sound y m .0;
       }
 
   declared-viewed : viewTable (tableOf (declaredTable d)) ≡ declaredTable d
@@ -100,7 +100,7 @@ module _ (s : Bytes) (d : Declarations) (h : Header s d) where
         fewSymbols = f .fewSymbols;
         inText = rw b in-text;
         declared = rw (b, variables-count) (all-of _ (declaredTable d .table) λ y m. sound y m .1);
-        fewPlaces = rw b (f .fewPlaces);
+        fewParameters = rw b (f .fewParameters);
       }
 
 pub lines-ready : (s : Bytes) → linesOf s .step .fault ≡ 0 → Ready s (tableOf (linesOf s .table))

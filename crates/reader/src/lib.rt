@@ -1,7 +1,7 @@
 // The reader of books: a lent text gives the book, or a number and a place; and the declared names as parts of that text.
 // For the buyer of the Bench level. No public function has a `requires`.
-use book::Answer;
 use book::Reading;
+use book::ReadingAnswer;
 use grammar::Parsed;
 use table::Name;
 use table::Table;
@@ -102,7 +102,7 @@ pub fn read(s: &[u8]) -> Reading
     let ends = x.ends;
     let volume = book::book_of(t, x);
     Reading {
-        answer: Answer::Accepted,
+        answer: ReadingAnswer::Accepted,
         book: volume,
         begin_count: u32::count_ones(begins),
         end_count: u32::count_ones(ends),

@@ -23,12 +23,12 @@ fn fill(fd: i32, buffer: &mut [u8], n: usize) -> usize {
 }
 
 // The answer to the first n bytes of a buffer.
-fn answer(buffer: &[u8], n: usize) -> book::Answer {
+fn answer(buffer: &[u8], n: usize) -> book::ReadingAnswer {
     if n <= buffer.len() {
         let r = reader::read(&buffer[..n]);
         r.answer
     } else {
-        book::Answer::Accepted
+        book::ReadingAnswer::Accepted
     }
 }
 

@@ -13,10 +13,10 @@ use lib.Seq.{ext-getD, getD-set-same, getD-set-other}
 use Rattle.laws.specs.Lists.{all, numbers}
 use Rattle.laws.specs.Sets.{full, grown}
 use Rattle.laws.proofs.Lists.{mem-index}
-use Rattle.laws.proofs.Places.{length-of, getD-of}
+use Rattle.laws.proofs.Arrays.{length-of, getD-of}
 use Rattle.laws.proofs.Turns.{counted, counted-few, counted-over, few-counted, over-counted}
 use Rattle.meaning.specs.Events.{Valuation, word32}
-use Rattle.work.specs.Bounded.{rowLimit}
+use Rattle.bounded.specs.Bounded.{rowLimit}
 use Rattle.rows.specs.Valuations.{valuationsIn, rowsGrown}
 
 -- the four words of the i-th valuation

@@ -11,7 +11,7 @@ ghost use Rattle.laws.specs.Order.{ascending};
 ghost use Rattle.laws.specs.Sets.{insert, within};
 ghost use Rattle.meaning.specs.Rows.{compareValuations};
 ghost use Rattle.meaning.specs.Limits.{variableLimit};
-ghost use Rattle.work.specs.Bounded.{rowLimit};
+ghost use Rattle.bounded.specs.Bounded.{rowLimit};
 ghost use Rattle.slot.specs.Slots.{rank};
 ghost use Rattle.rows.specs.Valuations.{valuationsIn, rowsGrown};
 
@@ -31,7 +31,7 @@ pub const WORDS: usize = ROWS * VALUES;
 pub type Words = [u32; WORDS];
 
 // Where a valuation stands, or where it would have to be put.
-struct Place {
+struct Insertion {
     found: bool,
     at: usize,
 }
@@ -85,7 +85,7 @@ fn put(words: &mut Words, i: usize, x: Valuation)
 }
 
 // Looks from the end of the first n, where most new valuations go.
-fn place_of(words: &Words, n: usize, x: Valuation) -> Place
+fn insertion_point(words: &Words, n: usize, x: Valuation) -> Insertion
     requires { ⌜ (n ≤ rowLimit) × (ascending compareValuations (take n (valuationsIn (now words))) ≡ true) ⌝ }
     ensures { λ r. ⌜ (r .found ≡ true → insert compareValuations x (take n (valuationsIn (now (words .entry)))) ≡ take n (valuationsIn (now (words .entry))))
         × (r .found ≡ false → (r .at ≤ n) × (insert compareValuations x (take n (valuationsIn (now (words .entry))))
@@ -96,20 +96,20 @@ fn place_of(words: &Words, n: usize, x: Valuation) -> Place
         let y = get(words, i - 1);
         let o = compare(x, y, 0);
         if o == AFTER {
-            return Place {
+            return Insertion {
                 found: false,
                 at: i,
             };
         }
         if o == SAME {
-            return Place {
+            return Insertion {
                 found: true,
                 at: i - 1,
             };
         }
         i -= 1;
     }
-    Place {
+    Insertion {
         found: false,
         at: 0,
     }
@@ -134,7 +134,7 @@ pub fn insert_row(words: &mut Words, n: usize, x: Valuation) -> usize
     requires { ⌜ (n ≤ rowLimit) × (ascending compareValuations (take n (valuationsIn (now words))) ≡ true) ⌝ }
     ensures { λ r. ⌜ rowsGrown r (now (words .exit)) ≡ within rowLimit (insert compareValuations x (take n (valuationsIn (now (words .entry))))) ⌝ }
 {
-    let p = place_of(words, n, x);
+    let p = insertion_point(words, n, x);
     if p.found {
         return n;
     }

@@ -19,10 +19,10 @@ ghost use Rattle.disjunct.specs.Disjuncts.{viewDisjunct};
 ghost use Rattle.sets.specs.Sets.{slotWords, disjunctWords, entryAt, entriesIn, disjunctsIn, grownIn};
 
 // How many disjuncts a set may have: "exceeds 128".
-pub const PLACES: usize = 128;
+pub const CAPACITY: usize = 128;
 
 // The answer of a set that would have more.
-pub const NO_ROOM: usize = PLACES + 1;
+pub const NO_ROOM: usize = CAPACITY + 1;
 
 // The words of a variable: a code, and its value or room for its exclusions.
 const SLOT_WORDS: usize = 1 + Disjunct::EXCLUSIONS;
@@ -36,7 +36,7 @@ const FOURTH: usize = 3 * SLOT_WORDS;
 
 const DISJUNCT_WORDS: usize = Disjunct::VARIABLES * SLOT_WORDS;
 
-pub const WORDS: usize = PLACES * DISJUNCT_WORDS;
+pub const WORDS: usize = CAPACITY * DISJUNCT_WORDS;
 
 pub type Words = [u32; WORDS];
 
@@ -44,7 +44,7 @@ pub type Words = [u32; WORDS];
 const BOUND: u32 = 1 + Disjunct::EXCLUSIONS as u32;
 
 // Where an element stands, or where it would have to be put.
-struct Place {
+struct Insertion {
     found: bool,
     at: usize,
 }
@@ -126,7 +126,7 @@ pub fn put(words: &mut Words, i: usize, d: Disjunct)
 }
 
 // Looks from the end of the first n, where most new disjuncts go.
-fn place_of(words: &Words, n: usize, d: Disjunct) -> Place
+fn insertion_point(words: &Words, n: usize, d: Disjunct) -> Insertion
     requires { ⌜ (n ≤ heldLimit) × (ascending compareDisjuncts (take n (disjunctsIn (now words))) ≡ true) ⌝ }
     ensures { λ r. ⌜ (r .found ≡ true → insert compareDisjuncts (viewDisjunct d) (take n (disjunctsIn (now (words .entry))))
         ≡ take n (disjunctsIn (now (words .entry))))
@@ -138,20 +138,20 @@ fn place_of(words: &Words, n: usize, d: Disjunct) -> Place
         let e = get(words, i - 1);
         let o = d.order(e);
         if o == AFTER {
-            return Place {
+            return Insertion {
                 found: false,
                 at: i,
             };
         }
         if o == SAME {
-            return Place {
+            return Insertion {
                 found: true,
                 at: i - 1,
             };
         }
         i -= 1;
     }
-    Place {
+    Insertion {
         found: false,
         at: 0,
     }
@@ -177,11 +177,11 @@ pub fn insert(words: &mut Words, n: usize, d: Disjunct) -> usize
     ensures { λ r. ⌜ grownIn r (now (words .exit)) ≡ within heldLimit
         (insert compareDisjuncts (viewDisjunct d) (take n (disjunctsIn (now (words .entry))))) ⌝ }
 {
-    let p = place_of(words, n, d);
+    let p = insertion_point(words, n, d);
     if p.found {
         return n;
     }
-    if n == PLACES {
+    if n == CAPACITY {
         return NO_ROOM;
     }
     let at = p.at;
@@ -215,7 +215,7 @@ pub fn join(words: &mut Words, m: usize, from: &Words, k: usize) -> usize
     while i < k {
         let d = get(from, i);
         n = insert(words, n, d);
-        if PLACES < n {
+        if CAPACITY < n {
             return NO_ROOM;
         }
         i += 1;

@@ -12,7 +12,7 @@ use Rattle.laws.proofs.Lists.{and-true-split}
 use Rattle.meaning.specs.Events as Events
 use Rattle.meaning.specs.Labels.{Entry, Disjunct, entryOf, isFree, exclusions, excluding, exclude, compareDisjuncts, meets, skipOne}
 use Rattle.meaning.specs.Room.{exclusionLimit, heldLimit, fewExclusions}
-use Rattle.work.specs.Bounded.{growFew}
+use Rattle.bounded.specs.Bounded.{growFew}
 use Rattle.constraint.specs.declared.Constraint.{Constraint}
 use Rattle.constraint.specs.Constraints.{viewDemand, demandsIn, viewConstraint}
 use Rattle.constraint.proofs.Views.{emptyDemand, demands-next}

@@ -8,8 +8,8 @@ use lib.ListN.{take}
 use Rattle.laws.specs.Order.{ascending}
 use Rattle.laws.specs.Sets.{full, grown}
 use Rattle.meaning.specs.Labels.{Disjunct, compareDisjuncts}
-use Rattle.work.specs.Bounded.{growFew}
-use Rattle.work.proofs.Skips.{few-full, few-ascending}
+use Rattle.bounded.specs.Bounded.{growFew}
+use Rattle.bounded.proofs.Skips.{few-full, few-ascending}
 use Rattle.sets.specs.Sets.{disjunctsIn, grownIn}
 use Rattle.sets.proofs.Sets.{in-grown, in-full}
 

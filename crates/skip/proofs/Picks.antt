@@ -11,7 +11,7 @@ use lib.Seq.{take-suc-set}
 use borrow.Author.Tests.{eq-eqb, ne-eqb}
 use Rattle.laws.proofs.Lists.{taken-cons}
 use Rattle.meaning.specs.Labels.{Disjunct}
-use Rattle.work.specs.Bounded.{pick}
+use Rattle.bounded.specs.Bounded.{pick}
 
 -- the disjuncts of position p among the first n from i on
 abbrev pub ahead : (p : ℕ) → List ℕ → List Disjunct → (n i : ℕ) → List Disjunct

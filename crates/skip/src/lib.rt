@@ -2,8 +2,8 @@
 use constraint::Constraint;
 use constraint::Constraints;
 use disjunct::Disjunct;
+use sets::CAPACITY;
 use sets::NO_ROOM;
-use sets::PLACES;
 use sets::Words;
 ghost use mathlib.Core.Path.{_≡_};
 ghost use mathlib.Core.Bool.{true};
@@ -17,22 +17,22 @@ ghost use Rattle.laws.specs.Sets.{Grown};
 ghost use Rattle.meaning.specs.Labels.{entryOf, isFree, exclude, compareDisjuncts, skipOne};
 ghost use Rattle.meaning.specs.Room.{heldLimit, fewExclusions};
 ghost use Rattle.meaning.specs.Limits.{symbolLimit};
-ghost use Rattle.work.specs.Bounded.{pick, growFew, skipped, skippedThrough};
+ghost use Rattle.bounded.specs.Bounded.{pick, growFew, skipped, skippedThrough};
 ghost use Rattle.constraint.specs.Constraints.{viewConstraint, demandsIn, noConstraint, Ready};
 ghost use Rattle.disjunct.specs.Disjuncts.{viewDisjunct};
 ghost use Rattle.sets.specs.Sets.{disjunctsIn, grownIn};
 
 // The label of position p.
-pub fn label(held: &Words, at: &[u32; PLACES], n: usize, p: u32, out: &mut Words) -> usize
+pub fn label(held: &Words, at: &[u32; CAPACITY], n: usize, p: u32, out: &mut Words) -> usize
     requires { ⌜ n ≤ heldLimit ⌝ }
     ensures { λ r. ⌜ (r ≤ n) × (take r (disjunctsIn (now (out .exit))) ≡ pick (eqb p) (take n (now (at .entry))) (take n (disjunctsIn (now (held .entry))))) ⌝ }
 {
     // as a slice, since that tells the proof its length
-    let places: &[u32] = at;
+    let parameters: &[u32] = at;
     let mut m: usize = 0;
     let mut i: usize = 0;
     while i < n {
-        if places[i] == p {
+        if parameters[i] == p {
             let d = sets::get(held, i);
             sets::put(out, m, d);
             m += 1;
@@ -58,7 +58,7 @@ fn skip_from(d: Disjunct, c: Constraint, i: usize, out: &mut Words, m: usize) ->
         if e.ok {
             let f = e.disjunct;
             let k = sets::insert(out, m, f);
-            if PLACES < k {
+            if CAPACITY < k {
                 return NO_ROOM;
             }
             return skip_from(d, c, i + 1, out, k);
@@ -91,7 +91,7 @@ pub fn skip_by(from: &Words, n: usize, c: Constraint, out: &mut Words) -> usize
     while i < n {
         let d = sets::get(from, i);
         m = skip_one(d, c, out, m);
-        if PLACES < m {
+        if CAPACITY < m {
             return NO_ROOM;
         }
         i += 1;
@@ -117,7 +117,7 @@ pub fn skip_through(
         let c = cs[symbol];
         if c.ok {
             m = skip_by(words, m, c, other);
-            if PLACES < m {
+            if CAPACITY < m {
                 return NO_ROOM;
             }
             sets::append(other, m, words, 0);

@@ -15,7 +15,7 @@ use Rattle.meaning.specs.Labels.{free, exclusions, admits, excluding}
 use Rattle.slot.specs.declared.Slot.{Slot}
 use Rattle.slot.specs.Slots.{viewSlot, smaller}
 use Rattle.slot.proofs.Slots.{view-bound, view-free, view-taken, few-slot}
-use Rattle.slot.proofs.Places.{smaller-few, insert-found, insert-gap}
+use Rattle.slot.proofs.Insertions.{smaller-few, insert-found, insert-gap}
 use Rattle.slot.proofs.Arrays.{gap}
 
 module _ (s : Slot) (x : ℕ) where
@@ -40,15 +40,15 @@ module _ (s : Slot) (x : ℕ) where
     firsts : exclusions (viewSlot s) ≡ take n (s .excluded)
     firsts = view-taken s n p
 
-    pub place-few : k ≤ n
-    place-few = omega (arith, smaller-few x (exclusions (viewSlot s)))
+    pub insertion-few : k ≤ n
+    insertion-few = omega (arith, smaller-few x (exclusions (viewSlot s)))
 
-    at-place : k < n → getD (exclusions (viewSlot s)) (smaller x (exclusions (viewSlot s))) 0 ≡ getD (s .excluded) k 0
-    at-place l = rw (← q, firsts) (getD-take n (s .excluded) k 0 l)
+    at-insertion : k < n → getD (exclusions (viewSlot s)) (smaller x (exclusions (viewSlot s))) 0 ≡ getD (s .excluded) k 0
+    at-insertion l = rw (← q, firsts) (getD-take n (s .excluded) k 0 l)
 
     pub found-slot : k < n → getD (s .excluded) k 0 ≡ x → excluding (viewSlot s) x ≡ viewSlot s
     found-slot l e =
-        excluding-free h ∙ ap free (insert-found x (exclusions (viewSlot s)) (omega arith) (at-place l ∙ e)) ∙ same
+        excluding-free h ∙ ap free (insert-found x (exclusions (viewSlot s)) (omega arith) (at-insertion l ∙ e)) ∙ same
       where
         same : free (exclusions (viewSlot s)) ≡ viewSlot s
         same = rw (view-free s h)
@@ -56,15 +56,15 @@ module _ (s : Slot) (x : ℕ) where
     module _ (m : k < n → getD (s .excluded) k 0 ≡ x → ⊥) where
       pub gap-slot : excluding (viewSlot s) x ≡ free (gap (s .excluded) k x n)
       gap-slot =
-          excluding-free h ∙ ap free (insert-gap x (exclusions (viewSlot s)) (λ l e. m (omega arith) (sym (at-place (omega arith)) ∙ e)) ∙ opened)
+          excluding-free h ∙ ap free (insert-gap x (exclusions (viewSlot s)) (λ l e. m (omega arith) (sym (at-insertion (omega arith)) ∙ e)) ∙ opened)
         where
           opened : let l = exclusions (viewSlot s) in take (smaller x l) l ++ x ∷ drop (smaller x l) l ≡ gap (s .excluded) k x n
-          opened = rw (← q, firsts, take-take k n (s .excluded) place-few)
+          opened = rw (← q, firsts, take-take k n (s .excluded) insertion-few)
 
       -- it has room if the code says so
       pub gap-room : n ≤ length (s .excluded) → leb (length (exclusions (excluding (viewSlot s) x))) 6 ≡ leb (suc n) 6
       gap-room f =
-          let e = place-few in
+          let e = insertion-few in
           let g : length (gap (s .excluded) k x n) ≡ suc n = simp (length-append, length-take, length-drop) (omega arith) in
           ap (λ y. leb (length (exclusions y)) 6) gap-slot ∙ ap (λ j. leb j 6) g
 

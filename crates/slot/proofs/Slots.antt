@@ -13,7 +13,7 @@ use Rattle.laws.proofs.Parts.{pad-take}
 use Rattle.meaning.specs.Labels.{Entry, bound, free, exclusions}
 use Rattle.slot.specs.declared.Slot.{Slot}
 use Rattle.slot.specs.Slots.{viewSlot, slotOf, rank}
-use Rattle.slot.proofs.Places.{retaken}
+use Rattle.slot.proofs.Insertions.{retaken}
 
 pub view-slot : (x : Entry) → viewSlot (slotOf x) ≡ x
 unfolding viewSlot slotOf
@@ -51,16 +51,16 @@ tidy-free s n xs h e p =
     (ap (λ k. record { bound = false; value = 0; count = k; excluded = pad 6 0 (take (s .count) (s .excluded)) }) (e ∙ ap length v))
 
 -- no more is excluded than there are places for
-pub few-places : (s : Slot) → length (s .excluded) ≤ 6 → leb (length (exclusions (viewSlot s))) 6 ≡ true
+pub few-excluded : (s : Slot) → length (s .excluded) ≤ 6 → leb (length (exclusions (viewSlot s))) 6 ≡ true
 unfolding viewSlot
-few-places s h = go (s .bound)
+few-excluded s h = go (s .bound)
   where
     go : (b : Bool) → leb (length (exclusions (cond b (bound (s .value)) (free (take (s .count) (s .excluded)))))) 6 ≡ true
     go true = refl
     go false = le-leb (length (take (s .count) (s .excluded))) 6 (omega (arith, length-take (s .count) (s .excluded)))
 
 pub few-slot : (s : Slot) → length (s .excluded) ≡ 6 → leb (length (exclusions (viewSlot s))) 6 ≡ true
-few-slot s h = few-places s (omega arith)
+few-slot s h = few-excluded s (omega arith)
 
 -- a comparison by its number
 pub rank-before : (o : Ordering) → (rank o ≡ 2 → ⊥) → (rank o ≡ 1 → ⊥) → o ≡ Ordering·lt

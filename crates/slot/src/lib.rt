@@ -72,7 +72,7 @@ impl Slot {
     }
 
     // How many of the excluded values stand before x: the smaller ones at the beginning.
-    fn place(self, x: u32) -> usize
+    fn insertion_point(self, x: u32) -> usize
         ensures { λ r. ⌜ (r ≡ smaller x (Labels.exclusions (viewSlot self))) × (r ≤ exclusionLimit) ⌝ }
     {
         let n = self.size();
@@ -126,7 +126,7 @@ impl Slot {
             };
         }
         let n = self.size();
-        let k = self.place(x);
+        let k = self.insertion_point(x);
         let xs = self.excluded;
         if k < n {
             if xs[k] == x {

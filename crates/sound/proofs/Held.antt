@@ -13,10 +13,10 @@ use Rattle.laws.specs.Order.{isLess}
 use Rattle.laws.proofs.Order.{compare-order, compare-lt, lt-compare, gt-compare}
 use Rattle.meaning.specs.Labels.{Held, heldAt, compareHeld, compareDisjuncts}
 use Rattle.meaning.specs.Labels as Labels
-use Rattle.work.specs.Wide.{wide}
-use Rattle.work.specs.Bounded.{heldOf}
-use Rattle.work.proofs.WideDisjuncts.{wide-compare}
-use Rattle.work.proofs.Picks.{held-of-length}
+use Rattle.bounded.specs.Wide.{wide}
+use Rattle.bounded.specs.Bounded.{heldOf}
+use Rattle.bounded.proofs.WideDisjuncts.{wide-compare}
+use Rattle.bounded.proofs.Picks.{held-of-length}
 use Rattle.slot.specs.Slots.{rank}
 use Rattle.disjunct.specs.declared.Disjunct.{Disjunct}
 use Rattle.disjunct.specs.Disjuncts.{viewDisjunct, disjunctOf}

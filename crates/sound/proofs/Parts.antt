@@ -18,14 +18,14 @@ use Rattle.laws.specs.Order.{ascending}
 use Rattle.laws.proofs.Lists.{and-swap, and-front, all-map, all-take, all-agree, mem-take}
 use Rattle.laws.proofs.Maps.{take-map}
 use Rattle.meaning.specs.Events.{word32}
-use Rattle.meaning.specs.Book.{soundPlace, soundSymbol, soundMask, soundBook}
+use Rattle.meaning.specs.Book.{soundParameter, soundSymbol, soundMask, soundBook}
 use Rattle.meaning.specs.Labels.{compareHeld}
 use Rattle.meaning.specs.Labels as Labels
 use Rattle.meaning.specs.Sound.{soundEntry, soundDisjunct, soundPiece, soundHeld, soundState}
-use Rattle.work.specs.Bounded.{heldOf}
-use Rattle.table.specs.declared.Place.{Place}
+use Rattle.bounded.specs.Bounded.{heldOf}
+use Rattle.table.specs.declared.Parameter.{Parameter}
 use Rattle.table.specs.declared.Symbol.{Symbol}
-use Rattle.table.specs.Tables.{viewPlace, viewSymbol}
+use Rattle.table.specs.Tables.{viewParameter, viewSymbol}
 use Rattle.slot.specs.declared.Slot.{Slot}
 use Rattle.slot.specs.Slots.{viewSlot}
 use Rattle.disjunct.specs.declared.Disjunct.{Disjunct}
@@ -64,15 +64,15 @@ slot-free s w h k =
     rw (h, le-leb (s .count) 6 k, le-leb (length (take (s .count) (s .excluded))) 6 few, all-take word32 (s .count) (s .excluded) (w .excluded))
 
 -- an argument place: ignored (0), or a variable (1)
-pub place-named : (v : ℕ) (p : Place) → p .tag ≡ 1 → (leb (p .tag) 1 && soundPlace v (viewPlace p)) ≡ ltb (p .number) v
-place-named v p h = rw h
+pub parameter-named : (v : ℕ) (p : Parameter) → p .tag ≡ 1 → (leb (p .tag) 1 && soundParameter v (viewParameter p)) ≡ ltb (p .number) v
+parameter-named v p h = rw h
 
 leb-one : (n : ℕ) → (n ≡ 1 → ⊥) → leb n 1 ≡ eqb n 0
 leb-one zero h = refl
 leb-one (suc n) h = lt-leb (suc n) 1 (omega arith) ∙ sym (ne-eqb (suc n) 0 (λ e. omega arith))
 
-pub place-other : (v : ℕ) (p : Place) → (p .tag ≡ 1 → ⊥) → (leb (p .tag) 1 && soundPlace v (viewPlace p)) ≡ eqb (p .tag) 0
-place-other v p h = rw (ne-eqb (p .tag) 1 h) (and-true (leb (p .tag) 1) ∙ leb-one (p .tag) h)
+pub parameter-other : (v : ℕ) (p : Parameter) → (p .tag ≡ 1 → ⊥) → (leb (p .tag) 1 && soundParameter v (viewParameter p)) ≡ eqb (p .tag) 0
+parameter-other v p h = rw (ne-eqb (p .tag) 1 h) (and-true (leb (p .tag) 1) ∙ leb-one (p .tag) h)
 
 -- a symbol: its kind, and its places one by one
 pub symbol-many : (v : ℕ) (y : Symbol) → 4 < y .count → symbolSound v y ≡ false
@@ -81,17 +81,17 @@ symbol-many v y h = rw (lt-leb (y .count) 4 h)
 
 pub symbol-parts : (v : ℕ) (y : Symbol) → y .count ≤ 4
     → symbolSound v y
-    ≡ (leb 1 (y .kind) && leb (y .kind) 255 && all (λ p. leb (p .tag) 1 && soundPlace v (viewPlace p)) (take (y .count) (y .places)))
+    ≡ (leb 1 (y .kind) && leb (y .kind) 255 && all (λ p. leb (p .tag) 1 && soundParameter v (viewParameter p)) (take (y .count) (y .parameters)))
 unfolding symbolSound symbolCounts soundSymbol viewSymbol
 symbol-parts v y h =
-    let ps = take (y .count) (y .places) in
+    let ps = take (y .count) (y .parameters) in
     let k = leb 1 (y .kind) && leb (y .kind) 255 in
-    let n = length-map ps viewPlace in
-    let m = length-take (y .count) (y .places) in
-    let few : length (map viewPlace ps) ≤ 4 = omega arith in
-    let tag : Place → Bool = λ p. leb (p .tag) 1 in
-    let named : Place → Bool = λ p. soundPlace v (viewPlace p) in
-    rw (le-leb (y .count) 4 h, le-leb (length (map viewPlace ps)) 4 few, and-true k, all-map (soundPlace v) viewPlace ps, all-and tag named ps)
+    let n = length-map ps viewParameter in
+    let m = length-take (y .count) (y .parameters) in
+    let few : length (map viewParameter ps) ≤ 4 = omega arith in
+    let tag : Parameter → Bool = λ p. leb (p .tag) 1 in
+    let named : Parameter → Bool = λ p. soundParameter v (viewParameter p) in
+    rw (le-leb (y .count) 4 h, le-leb (length (map viewParameter ps)) 4 few, and-true k, all-map (soundParameter v) viewParameter ps, all-and tag named ps)
     (and-front (all tag ps) k (all named ps))
 
 -- a mask of positions: below 2 ^ (n + 1), as a shifted one says, and even

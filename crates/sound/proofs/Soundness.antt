@@ -10,8 +10,8 @@ use lib.Dec.{leb}
 use lib.ListN.{length, take, length-take}
 use Rattle.laws.specs.Lists.{all}
 use Rattle.laws.proofs.Lists.{and-true-split, all-at, all-of, all-map}
-use Rattle.meaning.specs.Events.{Place, ignored, names}
-use Rattle.meaning.specs.Book.{soundPlace, soundSymbol, soundBook}
+use Rattle.meaning.specs.Events.{Parameter, ignored, names}
+use Rattle.meaning.specs.Book.{soundParameter, soundSymbol, soundBook}
 use Rattle.meaning.specs.Sound.{soundDisjunct, soundPiece, soundHeld, soundState}
 use Rattle.table.specs.declared.Symbol.{Symbol}
 use Rattle.table.specs.Tables.{viewSymbol}
@@ -38,26 +38,26 @@ unfolding bookSound bookCounts soundBook viewBook
 symbols-told b h = let p = simp and-eq-true-iff at h in (search, search)
 
 -- a variable of the book is one of four
-place-wide : (n : ℕ) → n ≤ 4 → (p : Place) → soundPlace n p ≡ true → soundPlace 4 p ≡ true
-place-wide n h ignored k = refl
-place-wide n h (names v) k = lt-ltb v 4 (omega (arith, ltb-true v n k))
+parameter-wide : (n : ℕ) → n ≤ 4 → (p : Parameter) → soundParameter n p ≡ true → soundParameter 4 p ≡ true
+parameter-wide n h ignored k = refl
+parameter-wide n h (names v) k = lt-ltb v 4 (omega (arith, ltb-true v n k))
 
 symbol-wide : (n : ℕ) → n ≤ 4 → (y : Symbol) → symbolCounts y ≡ true → soundSymbol n (viewSymbol y) ≡ true
-    → (leb (y .count) 4 && all (soundPlace 4) (viewSymbol y .places)) ≡ true
+    → (leb (y .count) 4 && all (soundParameter 4) (viewSymbol y .parameters)) ≡ true
 unfolding symbolCounts soundSymbol
 symbol-wide n h y c k =
     let p = simp and-eq-true-iff at c in
     let q = simp and-eq-true-iff at k in
-    let s : all (soundPlace n) (viewSymbol y .places) ≡ true = search in
-    ap₂ _&&_ (p .0) (all-of (soundPlace 4) (viewSymbol y .places) (λ x m. place-wide n h x (all-at (soundPlace n) s m)))
+    let s : all (soundParameter n) (viewSymbol y .parameters) ≡ true = search in
+    ap₂ _&&_ (p .0) (all-of (soundParameter 4) (viewSymbol y .parameters) (λ x m. parameter-wide n h x (all-at (soundParameter n) s m)))
 
 pub book-symbols : (b : Book) → bookSound b ≡ true
-    → all (λ y. leb (y .count) 4 && all (soundPlace 4) (viewSymbol y .places)) (take (b .symbols) (b .table)) ≡ true
+    → all (λ y. leb (y .count) 4 && all (soundParameter 4) (viewSymbol y .parameters)) (take (b .symbols) (b .table)) ≡ true
 book-symbols b h =
     let l = take (b .symbols) (b .table) in
     let t = symbols-told b h in
     let v = sym (all-map (soundSymbol (b .variables)) viewSymbol l) ∙ t .1 in
-    all-of (λ (y : Symbol). leb (y .count) 4 && all (soundPlace 4) (viewSymbol y .places)) l
+    all-of (λ (y : Symbol). leb (y .count) 4 && all (soundParameter 4) (viewSymbol y .parameters)) l
     λ y m.
     symbol-wide (b .variables) (book-counts b h .0) y (all-at symbolCounts (t .0) m) (all-at (λ z. soundSymbol (b .variables) (viewSymbol z)) v m)
 

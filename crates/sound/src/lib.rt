@@ -9,7 +9,7 @@ use state::State;
 use table::NAMES;
 use table::Name;
 use table::PARAMETERS;
-use table::Place;
+use table::Parameter;
 use table::SYMBOLS;
 use table::Symbol;
 ghost use mathlib.Core.Path.{_≡_};
@@ -20,11 +20,11 @@ ghost use lib.ListN.{take};
 ghost use Rattle.laws.specs.Lists.{all};
 ghost use Rattle.laws.specs.Order.{isLess, ascending};
 ghost use Rattle.pattern.specs.Positions.{occurrenceLimit};
-ghost use Rattle.meaning.specs.Book.{soundPlace, soundMask};
+ghost use Rattle.meaning.specs.Book.{soundParameter, soundMask};
 ghost use Rattle.meaning.specs.Labels.{heldAt, compareHeld};
 ghost use Rattle.meaning.specs.Room.{exclusionLimit, heldLimit};
 ghost use Rattle.meaning.specs.Limits.{variableLimit, symbolLimit, parameterLimit};
-ghost use Rattle.table.specs.Tables.{namesLimit, viewPlace};
+ghost use Rattle.table.specs.Tables.{namesLimit, viewParameter};
 ghost use Rattle.disjunct.specs.Disjuncts.{viewDisjunct};
 ghost use Rattle.state.specs.States.{heldFirst};
 ghost use Rattle.sound.specs.Soundness.{namePlaced, bookSound, stateSound};
@@ -172,7 +172,7 @@ pub fn sound_state(b: Book, s: State) -> bool
     if state::EVENTS < s.number {
         return false;
     }
-    if state::PLACES < s.count {
+    if state::CAPACITY < s.count {
         return false;
     }
     // No more positions than the book has room for.
@@ -184,8 +184,8 @@ pub fn sound_state(b: Book, s: State) -> bool
 }
 
 // An argument place: ignored, or one of the variables.
-fn sound_place(p: Place, variables: usize) -> bool
-    ensures { λ r. ⌜ r ≡ (leb (p .tag) 1 && soundPlace variables (viewPlace p)) ⌝ }
+fn sound_parameter(p: Parameter, variables: usize) -> bool
+    ensures { λ r. ⌜ r ≡ (leb (p .tag) 1 && soundParameter variables (viewParameter p)) ⌝ }
 {
     let v = p.number as usize;
     if p.tag == 1 {
@@ -194,14 +194,14 @@ fn sound_place(p: Place, variables: usize) -> bool
     p.tag == 0
 }
 
-fn sound_places(places: [Place; PARAMETERS], n: usize, variables: usize) -> bool
+fn sound_parameters(parameters: [Parameter; PARAMETERS], n: usize, variables: usize) -> bool
     requires { ⌜ n ≤ parameterLimit ⌝ }
-    ensures { λ r. ⌜ r ≡ all (λ p. leb (p .tag) 1 && soundPlace variables (viewPlace p)) (take n places) ⌝ }
+    ensures { λ r. ⌜ r ≡ all (λ p. leb (p .tag) 1 && soundParameter variables (viewParameter p)) (take n parameters) ⌝ }
 {
     let mut i: usize = 0;
     while i < n {
-        let p = places[i];
-        if sound_place(p, variables) {
+        let p = parameters[i];
+        if sound_parameter(p, variables) {
             i += 1;
         } else {
             return false;
@@ -216,13 +216,13 @@ fn sound_symbol(y: Symbol, variables: usize) -> bool
 {
     let n = y.count;
     let kind = y.kind as usize;
-    let places = y.places;
+    let parameters = y.parameters;
     if PARAMETERS < n {
         return false;
     }
     both(
         within(kind, 1, KIND_LIMIT),
-        sound_places(places, n, variables),
+        sound_parameters(parameters, n, variables),
     )
 }
 

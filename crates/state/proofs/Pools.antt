@@ -12,9 +12,9 @@ use Rattle.laws.proofs.Maps.{take-map}
 use Rattle.laws.proofs.Parts.{pad-next}
 use Rattle.meaning.specs.Labels as Labels
 use Rattle.meaning.specs.Labels.{freeDisjunct, heldAt}
-use Rattle.work.specs.Wide.{wide, wideHeld}
-use Rattle.work.specs.Bounded.{heldOf}
-use Rattle.work.proofs.Picks.{held-of-length, held-positions}
+use Rattle.bounded.specs.Wide.{wide, wideHeld}
+use Rattle.bounded.specs.Bounded.{heldOf}
+use Rattle.bounded.proofs.Picks.{held-of-length, held-positions}
 use Rattle.disjunct.specs.declared.Disjunct.{Disjunct}
 use Rattle.disjunct.specs.Disjuncts.{viewDisjunct, disjunctOf}
 use Rattle.disjunct.proofs.Disjuncts.{view-disjunct}

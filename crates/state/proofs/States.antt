@@ -10,8 +10,8 @@ use Rattle.laws.proofs.Maps.{map-agree}
 use Rattle.laws.proofs.Parts.{pad-length, pad-take, pad-full, map-pad}
 use Rattle.meaning.specs.Labels as Labels
 use Rattle.meaning.specs.Labels.{free, Held}
-use Rattle.work.specs.Wide.{wide, wideHeld}
-use Rattle.work.specs.Bounded.{heldOf}
+use Rattle.bounded.specs.Wide.{wide, wideHeld}
+use Rattle.bounded.specs.Bounded.{heldOf}
 use Rattle.slot.specs.Slots.{slotOf}
 use Rattle.disjunct.specs.declared.Disjunct.{Disjunct}
 use Rattle.disjunct.specs.Disjuncts.{viewDisjunct, disjunctOf}

@@ -7,12 +7,12 @@ ghost use Prim.Native.Nat.{_≤_, _<_};
 ghost use lib.ListN.{length, getD, set};
 ghost use Rattle.meaning.specs.Room.{heldLimit};
 ghost use Rattle.meaning.specs.Limits.{variableLimit};
-ghost use Rattle.work.specs.Wide.{wideHeld};
+ghost use Rattle.bounded.specs.Wide.{wideHeld};
 ghost use Rattle.advance.specs.Held.{heldIn};
 ghost use Rattle.state.specs.States.{stateOf, heldFirst};
 
 // "all 128 disjunct places": a place for each disjunct of a set.
-pub const PLACES: usize = sets::PLACES;
+pub const CAPACITY: usize = sets::CAPACITY;
 
 // "1,000,000 events"
 pub const EVENTS: u32 = 1000000;
@@ -21,8 +21,8 @@ pub const EVENTS: u32 = 1000000;
 pub struct State {
     pub number: u32,
     pub count: usize,
-    pub positions: [u32; PLACES],
-    pub pool: [Disjunct; PLACES],
+    pub positions: [u32; CAPACITY],
+    pub pool: [Disjunct; CAPACITY],
 }
 
 // All places free.
@@ -33,8 +33,8 @@ pub fn vacant(number: u32) -> State
     State {
         number: number,
         count: 0,
-        positions: [0u32; PLACES],
-        pool: [d; PLACES],
+        positions: [0u32; CAPACITY],
+        pool: [d; CAPACITY],
     }
 }
 
@@ -55,7 +55,7 @@ fn put_position(at: &mut [u32], i: usize, p: u32)
 }
 
 // What the state holds of the first `variables` variables, in lent words; the further variables free.
-pub fn load(s: State, variables: usize, at: &mut [u32; PLACES], words: &mut Words)
+pub fn load(s: State, variables: usize, at: &mut [u32; CAPACITY], words: &mut Words)
     requires { ⌜ (s .count ≤ heldLimit) × (variables ≤ variableLimit) ⌝ }
     ensures { λ _. ⌜ heldIn (s .count) (now (at .exit)) (now (words .exit)) ≡ map wideHeld (heldFirst variables s) ⌝ }
 {
@@ -70,7 +70,7 @@ pub fn load(s: State, variables: usize, at: &mut [u32; PLACES], words: &mut Word
 }
 
 // The state that holds what the lent words say, all that is not counted zero.
-pub fn store(number: u32, at: &[u32; PLACES], words: &Words, n: usize) -> State
+pub fn store(number: u32, at: &[u32; CAPACITY], words: &Words, n: usize) -> State
     requires { ⌜ n ≤ heldLimit ⌝ }
     ensures { λ r. ⌜ r ≡ stateOf (record { number = number; held = heldIn n (now (at .entry)) (now (words .entry)) }) ⌝ }
 {

@@ -14,8 +14,8 @@ use Rattle.laws.proofs.Sets.{length-insertAll, setOf-ascending}
 use Rattle.meaning.specs.Events.{Constraint, never}
 use Rattle.meaning.specs.Labels.{Disjunct, freeDisjunct, compareDisjuncts, meets, met}
 use Rattle.meaning.proofs.Orders.{disjunct-order}
-use Rattle.work.specs.Bounded.{withStart, metList, metSet}
-use Rattle.work.proofs.RowSets.{met-append, met-never, met-one, met-none}
+use Rattle.bounded.specs.Bounded.{withStart, metList, metSet}
+use Rattle.bounded.proofs.RowSets.{met-append, met-never, met-one, met-none}
 
 insertAll-append : {A : Type 0} (cmp : A → A → Ordering) (a b l : List A) → insertAll cmp (a ++ b) l ≡ insertAll cmp b (insertAll cmp a l)
 insertAll-append cmp [] b l = refl

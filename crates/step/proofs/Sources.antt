@@ -18,8 +18,8 @@ use Rattle.laws.proofs.Turns.{counted-few, counted-over, few-counted, over-coun
 use Rattle.meaning.specs.Events.{Constraint}
 use Rattle.meaning.specs.Labels.{Disjunct, compareDisjuncts}
 use Rattle.meaning.proofs.Orders.{disjunct-order}
-use Rattle.work.specs.Bounded.{pick, metList}
-use Rattle.work.proofs.Picks.{pick-next}
+use Rattle.bounded.specs.Bounded.{pick, metList}
+use Rattle.bounded.proofs.Picks.{pick-next}
 use Rattle.sets.specs.Sets.{disjunctsIn, grownIn}
 use Rattle.sets.proofs.Sets.{in-length, in-grown, in-full}
 use Rattle.step.proofs.Meetings.{met-both}

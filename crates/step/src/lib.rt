@@ -2,8 +2,8 @@
 use constraint::Constraint;
 use disjunct::Disjunct;
 use piece::POSITIONS;
+use sets::CAPACITY;
 use sets::NO_ROOM;
-use sets::PLACES;
 use sets::Words;
 ghost use mathlib.Core.Path.{_≡_};
 ghost use mathlib.Core.Bool.{true, _&&_};
@@ -18,7 +18,7 @@ ghost use Rattle.laws.specs.Sets.{insertAll, within};
 ghost use Rattle.pattern.specs.Positions.{occurrenceLimit};
 ghost use Rattle.meaning.specs.Labels.{compareDisjuncts};
 ghost use Rattle.meaning.specs.Room.{heldLimit};
-ghost use Rattle.work.specs.Bounded.{pick, withStart, metList, metSet};
+ghost use Rattle.bounded.specs.Bounded.{pick, withStart, metList, metSet};
 ghost use Rattle.constraint.specs.Constraints.{viewConstraint, Ready};
 ghost use Rattle.disjunct.specs.Disjuncts.{viewDisjunct};
 ghost use Rattle.sets.specs.Sets.{disjunctsIn, grownIn};
@@ -47,9 +47,9 @@ fn fill_masks(follows: [u32; POSITIONS], at: &[u32], n: usize, masks: &mut [u32]
 // The positions that follow each held position.
 pub fn follow_masks(
     follows: [u32; POSITIONS],
-    at: &[u32; PLACES],
+    at: &[u32; CAPACITY],
     n: usize,
-    masks: &mut [u32; PLACES],
+    masks: &mut [u32; CAPACITY],
 )
     requires { ⌜ (n ≤ heldLimit) × (all (λ p. leb 1 p && leb p occurrenceLimit) (take n (now at)) ≡ true) ⌝ }
     ensures { λ _. ⌜ take n (now (masks .exit)) ≡ map (λ p. getD follows (p - 1) 0) (take n (now (at .entry))) ⌝ }
@@ -85,7 +85,7 @@ fn add_start(out: &mut Words, begins: bool, c: Constraint) -> usize
 // The disjuncts whose mask has q, met with c, put among the first `count`.
 fn add_sources(
     held: &Words,
-    masks: &[u32; PLACES],
+    masks: &[u32; CAPACITY],
     n: usize,
     q: usize,
     c: Constraint,
@@ -103,7 +103,7 @@ fn add_sources(
         if has(masks[i], q) {
             let d = sets::get(held, i);
             m = add_met(out, m, d, c);
-            if PLACES < m {
+            if CAPACITY < m {
                 return NO_ROOM;
             }
         }
@@ -115,7 +115,7 @@ fn add_sources(
 // The step set of q: how many disjuncts it has, or NO_ROOM for it.
 pub fn step_set(
     held: &Words,
-    masks: &[u32; PLACES],
+    masks: &[u32; CAPACITY],
     n: usize,
     q: usize,
     begins: bool,

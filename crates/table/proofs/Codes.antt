@@ -14,12 +14,12 @@ use Rattle.laws.proofs.Lists.{all-append, all-more, and-true-split}
 use Rattle.laws.proofs.Parts.{pad-more}
 use Rattle.meaning.specs.Events as Events
 use Rattle.meaning.specs.Meaning.{noSymbol}
-use Rattle.meaning.specs.Book.{soundPlace}
+use Rattle.meaning.specs.Book.{soundParameter}
 use Rattle.form.specs.Text.{Bytes, Span}
 use Rattle.form.specs.Lines as Lines
 use Rattle.table.specs.declared.Symbol.{Symbol}
 use Rattle.table.specs.declared.Table.{Table}
-use Rattle.table.specs.Tables.{placeOf, symbolOf, nameOf, tableOf, viewPlace, viewSymbol, noName, spanOf, viewTable, inside, Ready}
+use Rattle.table.specs.Tables.{parameterOf, symbolOf, nameOf, tableOf, viewParameter, viewSymbol, noName, spanOf, viewTable, inside, Ready}
 
 module _ {A B : Type 0} (n : ℕ) (d : B) (f : A → B) where
   -- one more element is written where the padding begins
@@ -44,32 +44,32 @@ module _ {A B : Type 0} (n : ℕ) (d : B) (f : A → B) where
     read-next l m j k e h =
         rw (map-append, append-assoc, drop-at (map f l) _ j (length-map l f ∙ e), take-at (map f m) _ k (length-map m f ∙ h), map-back)
 
-view-place : (p : Events.Place) → viewPlace (placeOf p) ≡ p
-view-place Events.Place.ignored = refl
-view-place (Events.Place.names v) = refl
+view-parameter : (p : Events.Parameter) → viewParameter (parameterOf p) ≡ p
+view-parameter Events.Parameter.ignored = refl
+view-parameter (Events.Parameter.names v) = refl
 
 view-back : (y : Events.Symbol) → viewSymbol (symbolOf y) ≡ y
 unfolding viewSymbol symbolOf
-view-back y = ap (λ (l : List Events.Place). record { kind = y .kind; places = l })
-    (read-next 4 (placeOf Events.Place.ignored) placeOf viewPlace view-place [] (y .places) 0 (length (y .places)) refl refl)
+view-back y = ap (λ (l : List Events.Parameter). record { kind = y .kind; parameters = l })
+    (read-next 4 (parameterOf Events.Parameter.ignored) parameterOf viewParameter view-parameter [] (y .parameters) 0 (length (y .parameters)) refl refl)
 
-pub view-symbol : (y : Events.Symbol) → length (y .places) ≤ 4 → viewSymbol (symbolOf y) ≡ y
+pub view-symbol : (y : Events.Symbol) → length (y .parameters) ≤ 4 → viewSymbol (symbolOf y) ≡ y
 view-symbol y h = view-back y
 
 -- one more argument place
-pub symbol-more : (y : Events.Symbol) (p : Events.Place) → length (y .places) < 4
-    → record { kind = y .kind; count = length (y .places) + 1; places = set (symbolOf y .places) (length (y .places)) (placeOf p) }
-    ≡ symbolOf (record { kind = y .kind; places = y .places ++ (p ∷ []) })
+pub symbol-more : (y : Events.Symbol) (p : Events.Parameter) → length (y .parameters) < 4
+    → record { kind = y .kind; count = length (y .parameters) + 1; parameters = set (symbolOf y .parameters) (length (y .parameters)) (parameterOf p) }
+    ≡ symbolOf (record { kind = y .kind; parameters = y .parameters ++ (p ∷ []) })
 unfolding symbolOf
 symbol-more y p h =
-    rw (coded-more 4 (placeOf Events.Place.ignored) placeOf (y .places) p (length (y .places)) refl h, length-append)
+    rw (coded-more 4 (parameterOf Events.Parameter.ignored) parameterOf (y .parameters) p (length (y .parameters)) refl h, length-append)
 
 -- a plain table within the limits
 pub record Fits (t : Lines.Table) : Type 0 where
   pub fewVariables : length (t .variables) ≤ 4
   pub fewSymbols : length (t .table) ≤ 16
   pub paired : length (t .symbols) ≡ length (t .table)
-  pub fewPlaces : all (λ y. leb (length (y .places)) 4) (t .table) ≡ true
+  pub fewParameters : all (λ y. leb (length (y .parameters)) 4) (t .table) ≡ true
 
 view-paired : (t : Lines.Table) → length (t .symbols) ≡ length (t .table) → viewTable (tableOf t) ≡ t
 unfolding viewTable tableOf
@@ -103,7 +103,7 @@ names-all t = rw (take-add, map-append)
 
 -- a coded table within the limits is ready, and is what it codes
 ready-coded : (s : Bytes) (v : Lines.Table) → Fits v → all (inside (length s)) (v .variables ++ v .symbols) ≡ true
-    → all (λ y. all (soundPlace (length (v .variables))) (y .places)) (v .table) ≡ true → (u : Table) → u ≡ tableOf v
+    → all (λ y. all (soundParameter (length (v .variables))) (y .parameters)) (v .table) ≡ true → (u : Table) → u ≡ tableOf v
     → Ready s u × (viewTable u ≡ v)
 unfolding tableOf
 ready-coded s v f i d u e =
@@ -115,7 +115,7 @@ ready-coded s v f i d u e =
       fewSymbols = f .fewSymbols;
       inText = rw b i;
       declared = rw b d;
-      fewPlaces = rw b (f .fewPlaces);
+      fewParameters = rw b (f .fewParameters);
     } in
     rw e (known, b)
 
@@ -146,12 +146,12 @@ ready-fits s t r =
     let a = ready-parts s t r in
     let n : 20 ≤ length (t .names) = rw (a .names) (pad-room 20 noName _) in
     let k = symbols-length t (omega arith) in
-    record { fewVariables = omega arith; fewSymbols = omega arith; paired = k ∙ a .count; fewPlaces = r .fewPlaces }
+    record { fewVariables = omega arith; fewSymbols = omega arith; paired = k ∙ a .count; fewParameters = r .fewParameters }
 
 -- the table with nothing in it
 pub ready-none : (s : Bytes) → Ready s (tableOf Lines.noTable)
 ready-none s =
-    let f : Fits Lines.noTable = record { fewVariables = omega arith; fewSymbols = omega arith; paired = refl; fewPlaces = refl } in
+    let f : Fits Lines.noTable = record { fewVariables = omega arith; fewSymbols = omega arith; paired = refl; fewParameters = refl } in
     ready-coded s Lines.noTable f refl refl (tableOf Lines.noTable) refl .0
 
 -- a table with one more variable, as `with_variable` makes it
@@ -167,14 +167,14 @@ ready-variable s t r c h x i =
     let j : v .table ≡ [] = sym (take-all 0 (v .table) (omega arith)) in
     let p = coded-more 20 noName nameOf (v .variables) x (t .variables) (sym (a .variables)) (omega arith) in
     let w : Lines.Table = record { variables = v .variables ++ (x ∷ []); symbols = []; table = [] } in
-    let g : Fits w = record { fewVariables = rw length-append (omega arith); fewSymbols = omega arith; paired = refl; fewPlaces = refl } in
+    let g : Fits w = record { fewVariables = rw length-append (omega arith); fewSymbols = omega arith; paired = refl; fewParameters = refl } in
     let o : all (inside (length s)) (v .variables) ≡ true = and-true-split _ _ (sym (all-append _ (v .variables) (v .symbols)) ∙ r .inText) .0 in
     let z : v .variables ++ v .symbols ≡ v .variables = ap (λ l. v .variables ++ l) k ∙ append-nil _ in
     ready-coded s w g (rw append-nil (all-more _ (v .variables) x o i)) refl _ (cc (length-append (v .variables) (x ∷ []), append-nil (w .variables)))
 
 -- a table with one more symbol, as `with_symbol` makes it
 pub ready-symbol : (s : Bytes) (t : Table) → Ready s t → t .count < 16 → (x : Span) → inside (length s) x ≡ true
-    → (y : Events.Symbol) → length (y .places) ≤ 4 → all (soundPlace (t .variables)) (y .places) ≡ true
+    → (y : Events.Symbol) → length (y .parameters) ≤ 4 → all (soundParameter (t .variables)) (y .parameters) ≡ true
     → let names = set (t .names) (t .variables + t .count) (nameOf x) in let symbols = set (t .symbols) (t .count) (symbolOf y) in
     let u : Table = record { variables = t .variables; count = t .count + 1; names = names; symbols = symbols } in
     Ready s u × (viewTable u
@@ -193,7 +193,7 @@ ready-symbol s t r c x i y l d =
       fewVariables = f .fewVariables;
       fewSymbols = rw length-append (omega arith);
       paired = simp (length-append, f .paired);
-      fewPlaces = all-more _ (v .table) y (f .fewPlaces) (le-leb _ 4 l);
+      fewParameters = all-more _ (v .table) y (f .fewParameters) (le-leb _ 4 l);
     } in
     let e = append-assoc (v .variables) (v .symbols) (x ∷ []) in
     let o : all (inside (length s)) (v .variables ++ (v .symbols ++ (x ∷ []))) ≡ true =

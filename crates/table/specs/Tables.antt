@@ -9,11 +9,11 @@ use Rattle.laws.specs.Lists.{all}
 use Rattle.laws.specs.Parts.{pad}
 use Rattle.meaning.specs.Events as Events
 use Rattle.meaning.specs.Meaning.{noSymbol}
-use Rattle.meaning.specs.Book.{soundPlace}
+use Rattle.meaning.specs.Book.{soundParameter}
 use Rattle.form.specs.Limits.{variableLimit, symbolLimit, parameterLimit}
 use Rattle.form.specs.Text.{Bytes, Span}
 use Rattle.form.specs.Lines as Lines
-use Rattle.table.specs.declared.Place.{Place}
+use Rattle.table.specs.declared.Parameter.{Parameter}
 use Rattle.table.specs.declared.Symbol.{Symbol}
 use Rattle.table.specs.declared.Name.{Name}
 use Rattle.table.specs.declared.Table.{Table}
@@ -27,13 +27,13 @@ abbrev pub maskBits : ℕ
 maskBits = 32
 
 -- plain to code; the canonical padding is the ignored place, the empty symbol, the empty name
-abbrev pub placeOf : Events.Place → Place
-placeOf Events.Place.ignored = record { tag = 0; number = 0 }
-placeOf (Events.Place.names v) = record { tag = 1; number = v }
+abbrev pub parameterOf : Events.Parameter → Parameter
+parameterOf Events.Parameter.ignored = record { tag = 0; number = 0 }
+parameterOf (Events.Parameter.names v) = record { tag = 1; number = v }
 
 unfoldable pub symbolOf : Events.Symbol → Symbol
 symbolOf y =
-    record { kind = y .kind; count = length (y .places); places = pad parameterLimit (placeOf Events.Place.ignored) (map placeOf (y .places)) }
+    record { kind = y .kind; count = length (y .parameters); parameters = pad parameterLimit (parameterOf Events.Parameter.ignored) (map parameterOf (y .parameters)) }
 
 abbrev pub nameOf : Span → Name
 nameOf x = record { start = x .start; size = x .size }
@@ -51,11 +51,11 @@ tableOf t =
     }
 
 -- code to plain: what is counted, and nothing beyond
-abbrev pub viewPlace : Place → Events.Place
-viewPlace p = cond (eqb (p .tag) 1) (Events.Place.names (p .number)) Events.Place.ignored
+abbrev pub viewParameter : Parameter → Events.Parameter
+viewParameter p = cond (eqb (p .tag) 1) (Events.Parameter.names (p .number)) Events.Parameter.ignored
 
 unfoldable pub viewSymbol : Symbol → Events.Symbol
-viewSymbol y = record { kind = y .kind; places = map viewPlace (take (y .count) (y .places)) }
+viewSymbol y = record { kind = y .kind; parameters = map viewParameter (take (y .count) (y .parameters)) }
 
 abbrev pub spanOf : Name → Span
 spanOf n = record { start = n .start; size = n .size }
@@ -79,5 +79,5 @@ pub record Ready (s : Bytes) (t : Table) : Type 0 where
   pub fewVariables : t .variables ≤ variableLimit
   pub fewSymbols : t .count ≤ symbolLimit
   pub inText : all (inside (length s)) (viewTable t .variables ++ viewTable t .symbols) ≡ true
-  pub declared : all (λ y. all (soundPlace (t .variables)) (y .places)) (viewTable t .table) ≡ true
-  pub fewPlaces : all (λ y. leb (length (y .places)) parameterLimit) (viewTable t .table) ≡ true
+  pub declared : all (λ y. all (soundParameter (t .variables)) (y .parameters)) (viewTable t .table) ≡ true
+  pub fewParameters : all (λ y. leb (length (y .parameters)) parameterLimit) (viewTable t .table) ≡ true

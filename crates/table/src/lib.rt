@@ -6,11 +6,11 @@ ghost use Prim.Native.Nat.{_+_, _-_, _≤_, _<_};
 ghost use lib.ListN.{length, take, drop, set};
 ghost use Rattle.laws.specs.Lists.{all};
 ghost use Rattle.meaning.specs.Meaning.{noSymbol};
-ghost use Rattle.meaning.specs.Book.{soundPlace, boundIn};
+ghost use Rattle.meaning.specs.Book.{soundParameter, boundIn};
 ghost use Rattle.form.specs.Limits.{variableLimit, symbolLimit, parameterLimit};
 ghost use Rattle.form.specs.Scan.{part};
 ghost use Rattle.form.specs.Lines.{indexOf, noTable};
-ghost use Rattle.table.specs.Tables.{namesLimit, maskBits, symbolOf, tableOf, spanOf, viewPlace, viewSymbol, inside};
+ghost use Rattle.table.specs.Tables.{namesLimit, maskBits, symbolOf, tableOf, spanOf, viewParameter, viewSymbol, inside};
 
 // "0 to 4 variable names", "1 to 16 lines `sym NAME KIND ARGS`", "ARGS are 0 to 4 words"
 pub const VARIABLES: usize = 4;
@@ -22,7 +22,7 @@ pub const PARAMETERS: usize = 4;
 pub const NAMES: usize = VARIABLES + SYMBOLS;
 
 // An argument place of a symbol: tag 0, ignored; tag 1, the variable with that number.
-pub struct Place {
+pub struct Parameter {
     pub tag: u32,
     pub number: u32,
 }
@@ -30,7 +30,7 @@ pub struct Place {
 pub struct Symbol {
     pub kind: u32,
     pub count: usize,
-    pub places: [Place; PARAMETERS],
+    pub parameters: [Parameter; PARAMETERS],
 }
 
 // The part of the text where a name is declared.
@@ -50,11 +50,11 @@ pub struct Table {
 pub fn no_symbol() -> Symbol
     ensures { λ r. ⌜ r ≡ symbolOf noSymbol ⌝ }
 {
-    let p = Place { tag: 0, number: 0 };
+    let p = Parameter { tag: 0, number: 0 };
     Symbol {
         kind: 0,
         count: 0,
-        places: [p; PARAMETERS],
+        parameters: [p; PARAMETERS],
     }
 }
 
@@ -120,9 +120,9 @@ pub fn with_symbol(t: Table, n: Name, y: Symbol) -> Table
 }
 
 // The variables that a place binds, one bit to a variable.
-fn place_bound(p: Place) -> u32
-    requires { ⌜ soundPlace maskBits (viewPlace p) ≡ true ⌝ }
-    ensures { λ r. ⌜ r ≡ boundIn (viewPlace p ∷ []) ⌝ }
+fn parameter_bound(p: Parameter) -> u32
+    requires { ⌜ soundParameter maskBits (viewParameter p) ≡ true ⌝ }
+    ensures { λ r. ⌜ r ≡ boundIn (viewParameter p ∷ []) ⌝ }
 {
     let n = p.number;
     if p.tag == 1 {
@@ -133,15 +133,15 @@ fn place_bound(p: Place) -> u32
 
 // Those that a symbol binds.
 pub fn bound_in(y: Symbol) -> u32
-    requires { ⌜ (y .count ≤ parameterLimit) × (all (soundPlace maskBits) (viewSymbol y .places) ≡ true) ⌝ }
-    ensures { λ r. ⌜ r ≡ boundIn (viewSymbol y .places) ⌝ }
+    requires { ⌜ (y .count ≤ parameterLimit) × (all (soundParameter maskBits) (viewSymbol y .parameters) ≡ true) ⌝ }
+    ensures { λ r. ⌜ r ≡ boundIn (viewSymbol y .parameters) ⌝ }
 {
     let mut m: u32 = 0;
     let n = y.count;
     let mut i = 0;
     while i < n {
-        let p = y.places[i];
-        m = m | place_bound(p);
+        let p = y.parameters[i];
+        m = m | parameter_bound(p);
         i += 1;
     }
     m

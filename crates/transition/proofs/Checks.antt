@@ -9,7 +9,7 @@ use lib.Dec.{eqb, leb}
 use lib.ListN.{take}
 use Rattle.laws.specs.Lists.{all}
 use Rattle.meaning.specs.Events as Events
-use Rattle.meaning.specs.Book.{soundPlace, soundBook}
+use Rattle.meaning.specs.Book.{soundParameter, soundBook}
 use Rattle.meaning.specs.Sound.{soundHeld, eventLimit}
 use Rattle.table.specs.Tables.{viewSymbol}
 use Rattle.book.specs.declared.Book.{Book}
@@ -32,7 +32,7 @@ pub record BookSound (b : Book) : Type 0 where
   pub counts : Counts b
   pub variables : b .variables ≤ 4
   pub view : soundBook (viewBook b) ≡ true
-  pub symbols : all (λ y. leb (y .count) 4 && all (soundPlace 4) (viewSymbol y .places)) (take (b .symbols) (b .table)) ≡ true
+  pub symbols : all (λ y. leb (y .count) 4 && all (soundParameter 4) (viewSymbol y .parameters)) (take (b .symbols) (b .table)) ≡ true
 
 pub book-facts : (b : Book) → bookSound b ≡ true → BookSound b
 book-facts b h =

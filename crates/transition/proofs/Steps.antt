@@ -24,10 +24,10 @@ use Rattle.meaning.specs.Room.{room}
 use Rattle.meaning.specs.Rows.{rows}
 use Rattle.meaning.specs.Sound.{soundPiece, soundHeld, eventLimit}
 use Rattle.meaning.proofs.Few.{few-rows}
-use Rattle.work.specs.Wide.{wide, wideHeld, wideValuation, wideBook}
-use Rattle.work.specs.Bounded.{heldOf, rowLimit, freeRows}
-use Rattle.work.proofs.Picks.{held-positions}
-use Rattle.work.proofs.Wide.{wide-sound, wide-held, wide-room, wide-rows, wide-free}
+use Rattle.bounded.specs.Wide.{wide, wideHeld, wideValuation, wideBook}
+use Rattle.bounded.specs.Bounded.{heldOf, rowLimit, freeRows}
+use Rattle.bounded.proofs.Picks.{held-positions}
+use Rattle.bounded.proofs.Wide.{wide-sound, wide-held, wide-room, wide-rows, wide-free}
 use Rattle.table.specs.Tables.{viewSymbol}
 use Rattle.constraint.specs.declared.Constraint.{Constraint}
 use Rattle.constraint.specs.Constraints.{viewConstraint}
@@ -104,16 +104,16 @@ module _ (b : Book) (s : State) (fb : BookSound b) (fs : StateSound b s) where
 
   -- the lent words hold what the state holds
   module _ (at w : List ℕ) (held : heldIn (s .count) at w ≡ map wideHeld (heldFirst (b .variables) s)) where
-    place-known : (p : ℕ) → List·Memᴰ p (take (s .count) at) → (1 ≤ p) × (p ≤ b .positions)
-    place-known p m =
+    parameter-known : (p : ℕ) → List·Memᴰ p (take (s .count) at) → (1 ≤ p) × (p ≤ b .positions)
+    parameter-known p m =
         let e = sym (positions-in (s .count) at w (fs .count)) ∙ ap (map (λ h. h .position)) held ∙ wide-position (heldFirst (b .variables) s) in
         let k = mem-map (λ h. h .position) p (heldFirst (b .variables) s) .0 (rw e at m) in
         rw (k .2) (held-position (k .0) (k .1))
 
-    pub places-sound : all (λ p. leb 1 p && leb p 31) (take (s .count) at) ≡ true
-    places-sound =
+    pub parameters-sound : all (λ p. leb 1 p && leb p 31) (take (s .count) at) ≡ true
+    parameters-sound =
         all-of (λ p. leb 1 p && leb p 31) (take (s .count) at) λ p m.
-        let k = place-known p m in
+        let k = parameter-known p m in
         ap₂ _&&_ (le-leb 1 p (k .0)) (le-leb p 31 (omega (arith, k .1, fb .counts .positions)))
 
     pub masks-known : (masks : List ℕ) → take (s .count) masks ≡ map (λ p. getD (b .follows) (p - 1) 0) (take (s .count) at)
@@ -121,7 +121,7 @@ module _ (b : Book) (s : State) (fb : BookSound b) (fs : StateSound b s) where
     unfolding viewBook
     masks-known masks e =
         e ∙ map-agree (λ p. getD (b .follows) (p - 1) 0) (followers (viewBook b)) (take (s .count) at) λ p m.
-        let k = place-known p m in
+        let k = parameter-known p m in
         sym (getD-take (b .positions) (b .follows) (p - 1) 0 (omega arith))
 
     pub words-sound : soundHeld (wideBook (viewBook b)) (heldIn (s .count) at w) ≡ true

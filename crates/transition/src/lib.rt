@@ -13,7 +13,7 @@ ghost use Rattle.meaning.specs.Events as Events;
 ghost use Rattle.meaning.specs.Book.{followers};
 ghost use Rattle.meaning.specs.Limits.{argumentLimit};
 ghost use Rattle.meaning.specs.Sound.{eventLimit};
-ghost use Rattle.work.specs.Wide.{wideHeld};
+ghost use Rattle.bounded.specs.Wide.{wideHeld};
 ghost use Rattle.record.specs.Records.{eventIn, viewEvent};
 ghost use Rattle.constraint.specs.Constraints.{viewConstraint, noConstraint, Ready};
 ghost use Rattle.book.specs.Books.{viewBook};
@@ -47,8 +47,8 @@ fn moved(
     state: State,
     cs: Constraints,
     held: &sets::Words,
-    at: &[u32; state::PLACES],
-    masks: &[u32; state::PLACES],
+    at: &[u32; state::CAPACITY],
+    masks: &[u32; state::CAPACITY],
     out: &mut rows::Words,
 ) -> Stepped
     requires { ⌜ (bookSound book ≡ true) × (stateSound book state ≡ true) × (state .number < eventLimit)
@@ -60,9 +60,9 @@ fn moved(
 {
     let n = state.count;
     let mut next = [0u32; sets::WORDS];
-    let mut next_at = [0u32; state::PLACES];
+    let mut next_at = [0u32; state::CAPACITY];
     let k = advance::advance(book, cs, held, at, masks, n, &mut next, &mut next_at);
-    if state::PLACES < k {
+    if state::CAPACITY < k {
         return refusal(12, state);
     }
     let rows = collect::collect(book, cs, held, at, masks, n, out);
@@ -84,8 +84,8 @@ fn judged(book: Book, state: State, e: Event, out: &mut rows::Words) -> Stepped
     let follows = book.follows;
     let cs = constraint::constraints(table, book.symbols, e);
     let mut held = [0u32; sets::WORDS];
-    let mut at = [0u32; state::PLACES];
-    let mut masks = [0u32; state::PLACES];
+    let mut at = [0u32; state::CAPACITY];
+    let mut masks = [0u32; state::CAPACITY];
     state::load(state, book.variables, &mut at, &mut held);
     step::follow_masks(follows, &at, state.count, &mut masks);
     if collect::leaves_free(book, cs, &held, &at, &masks, state.count) {

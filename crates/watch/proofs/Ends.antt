@@ -13,7 +13,7 @@ use Rattle.laws.specs.Parts.{splice}
 use Rattle.laws.proofs.Lists.{same-test, mem-map}
 use Rattle.laws.proofs.Maps.{gather-agree, gather-map}
 use Rattle.meaning.specs.Events.{Valuation}
-use Rattle.work.specs.Wide.{wideValuation}
+use Rattle.bounded.specs.Wide.{wideValuation}
 use Rattle.form.specs.Text.{Bytes}
 use Rattle.record.specs.Records.{eventIn}
 use Rattle.book.specs.declared.Book.{Book}

@@ -14,7 +14,7 @@ use Rattle.laws.specs.Lists.{all, gather}
 use Rattle.laws.specs.Parts.{pad}
 use Rattle.laws.proofs.Lists.{all-at}
 use Rattle.laws.proofs.Parts.{pad-length, pad-full}
-use Rattle.laws.proofs.Places.{by-index}
+use Rattle.laws.proofs.Arrays.{by-index}
 use Rattle.meaning.specs.Events.{Valuation}
 use Rattle.writer.specs.RowBytes.{wordBytes, rowBytes}
 

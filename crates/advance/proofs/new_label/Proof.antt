@@ -8,7 +8,7 @@ use lib.ListN.{take}
 use Rattle.laws.specs.Order.{ascending}
 use Rattle.meaning.specs.Events as Events
 use Rattle.meaning.specs.Labels.{Disjunct, compareDisjuncts}
-use Rattle.work.specs.Bounded.{pick, skippedThrough}
+use Rattle.bounded.specs.Bounded.{pick, skippedThrough}
 use Rattle.constraint.specs.Constraints.{viewConstraint}
 use Rattle.sets.specs.Sets.{disjunctsIn, grownIn}
 use Rattle.advance.proofs.Labels.{step-ascending, step-over, skip-over, label-none, label-joined}

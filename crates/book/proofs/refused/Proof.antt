@@ -1,7 +1,7 @@
 -- `book::refused` meets its contract, by the answer and the empty book.
 use mathlib.Core.Path.{ap₂}
 use borrow.Author.Needs.{needs}
-use Rattle.book.specs.declared.Answer.{Answer}
+use Rattle.book.specs.declared.ReadingAnswer.{ReadingAnswer}
 use Rattle.book.specs.declared.Book.{Book}
 use Rattle.book.specs.declared.Reading.{Reading}
 use Rattle.book.proofs.refused.Statement.{statement}
@@ -14,7 +14,7 @@ empty-book-requires : tie.Need-empty-book-requires
 empty-book-requires c κs = search needs
 
 -- an answer and a book without counts
-abbrev uncounted : Answer → Book → Reading
+abbrev uncounted : ReadingAnswer → Book → Reading
 uncounted a b = record { answer = a; book = b; «begin_count» = 0; «end_count» = 0 }
 
 returns : tie.Need-returns

@@ -4,8 +4,8 @@ use lib.ListN.{take}
 use borrow.Author.Needs.{needs}
 use Rattle.laws.specs.Sets.{insert, within}
 use Rattle.meaning.specs.Rows.{compareValuations, valuationOf}
-use Rattle.work.specs.Bounded.{rowLimit}
-use Rattle.work.proofs.RowSets.{row-met, row-unmet}
+use Rattle.bounded.specs.Bounded.{rowLimit}
+use Rattle.bounded.proofs.RowSets.{row-met, row-unmet}
 use Rattle.constraint.specs.Constraints.{viewConstraint}
 use Rattle.disjunct.specs.Disjuncts.{viewDisjunct}
 use Rattle.rows.specs.Valuations.{valuationsIn}

@@ -7,8 +7,8 @@ use borrow.Author.Needs.{needs}
 use Rattle.laws.specs.Sets.{within}
 use Rattle.meaning.specs.Events.{Event}
 use Rattle.meaning.specs.Rows.{rows}
-use Rattle.work.specs.Wide.{wideBook}
-use Rattle.work.specs.Bounded.{rowLimit, rowsWith}
+use Rattle.bounded.specs.Wide.{wideBook}
+use Rattle.bounded.specs.Bounded.{rowLimit, rowsWith}
 use Rattle.constraint.specs.Constraints.{viewConstraint}
 use Rattle.book.specs.Books.{viewBook}
 use Rattle.advance.specs.Held.{heldIn}

@@ -9,8 +9,8 @@ use lib.ListN.{take, getD}
 use borrow.Author.Needs.{needs}
 use Rattle.laws.specs.Bits.{bit}
 use Rattle.meaning.specs.Labels.{freeDisjunct}
-use Rattle.work.specs.Bounded.{pick, withStart, freeIn}
-use Rattle.work.proofs.RowSets.{free-none}
+use Rattle.bounded.specs.Bounded.{pick, withStart, freeIn}
+use Rattle.bounded.proofs.RowSets.{free-none}
 use Rattle.constraint.specs.Constraints.{viewConstraint}
 use Rattle.disjunct.specs.Disjuncts.{viewDisjunct}
 use Rattle.disjunct.proofs.Disjuncts.{free-view}

@@ -4,7 +4,7 @@ use lib.ListN.{take}
 use borrow.Author.Needs.{needs}
 use Rattle.laws.specs.Lists.{any}
 use Rattle.meaning.specs.Labels.{isFree}
-use Rattle.work.proofs.RowSets.{free-met, free-unmet}
+use Rattle.bounded.proofs.RowSets.{free-met, free-unmet}
 use Rattle.constraint.specs.Constraints.{viewConstraint}
 use Rattle.disjunct.specs.Disjuncts.{viewDisjunct}
 use Rattle.collect.proofs.free_met.Statement.{statement}

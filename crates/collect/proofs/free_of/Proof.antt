@@ -6,8 +6,8 @@ use mathlib.Core.Logic.{⊎-elim}
 use lib.ListN.{take}
 use borrow.Author.Needs.{needs}
 use Rattle.laws.specs.Bits.{bit}
-use Rattle.work.specs.Bounded.{pick, withStart, freeIn}
-use Rattle.work.proofs.RowSets.{free-none, free-never}
+use Rattle.bounded.specs.Bounded.{pick, withStart, freeIn}
+use Rattle.bounded.proofs.RowSets.{free-none, free-never}
 use Rattle.constraint.specs.Constraints.{viewConstraint}
 use Rattle.constraint.proofs.Views.{never-view}
 use Rattle.sets.specs.Sets.{disjunctsIn}

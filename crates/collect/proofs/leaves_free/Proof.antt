@@ -5,8 +5,8 @@ use Prim.Native.Nat.{_+_, _-_, _≤_, _<_}
 use native.Mathlib.Omega.{arith}
 use borrow.Author.Needs.{needs}
 use Rattle.meaning.specs.Events.{Event}
-use Rattle.work.specs.Wide.{wideBook}
-use Rattle.work.specs.Bounded.{freeRows}
+use Rattle.bounded.specs.Wide.{wideBook}
+use Rattle.bounded.specs.Bounded.{freeRows}
 use Rattle.book.specs.Books.{viewBook}
 use Rattle.advance.specs.Held.{heldIn}
 use Rattle.collect.proofs.Symbols.{symbolAt, Agree, freeAhead, free-first, Known, few-variables, symbol-below, free-turn, free-last}

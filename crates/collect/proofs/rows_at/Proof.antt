@@ -11,8 +11,8 @@ use Rattle.laws.specs.Bits.{bit}
 use Rattle.laws.specs.Sets.{Grown}
 use Rattle.meaning.specs.Events.{Valuation}
 use Rattle.meaning.specs.Labels.{freeDisjunct}
-use Rattle.work.specs.Bounded.{pick, withStart, rowLimit, rowsWith}
-use Rattle.work.proofs.RowSets.{rows-none}
+use Rattle.bounded.specs.Bounded.{pick, withStart, rowLimit, rowsWith}
+use Rattle.bounded.proofs.RowSets.{rows-none}
 use Rattle.constraint.specs.Constraints.{viewConstraint}
 use Rattle.disjunct.specs.Disjuncts.{viewDisjunct}
 use Rattle.disjunct.proofs.Disjuncts.{free-view}

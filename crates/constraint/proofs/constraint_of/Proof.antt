@@ -6,7 +6,7 @@ use borrow.Author.Needs.{needs}
 use borrow.Author.Tests.{eqb-true}
 use lib.Dec.{eqb}
 use lib.ListN.{length}
-use Rattle.laws.proofs.Places.{map-length}
+use Rattle.laws.proofs.Arrays.{map-length}
 use Rattle.laws.proofs.Lists.{and-true-split}
 use Rattle.meaning.specs.Events as Events
 use Rattle.table.specs.Tables.{viewSymbol}
@@ -21,7 +21,7 @@ same-count : (c : tie.Start) → Events.matches (viewSymbol (c .args .y)) (viewE
 same-count c h =
     let y = c .args .y in
     let e = c .args .e in
-    let l : length (y .places) ≡ 4 = search (needs, map-length) in
+    let l : length (y .parameters) ≡ 4 = search (needs, map-length) in
     let m : length (e .args) ≡ 4 = search (needs, map-length) in
     sym (eqb-true (y .count) (e .count) (and-true-split (eqb (y .kind) (e .kind)) _ (sym (matches-counts y e l (c .pre .0) m (c .pre .1)) ∙ h) .1))
 

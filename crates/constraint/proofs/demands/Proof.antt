@@ -6,7 +6,7 @@ use Prim.Native.Nat.{_-_, _≤_}
 use native.Mathlib.Omega.{arith}
 use borrow.Author.Needs.{needs}
 use lib.ListN.{length}
-use Rattle.laws.proofs.Places.{map-length}
+use Rattle.laws.proofs.Arrays.{map-length}
 use Rattle.constraint.proofs.Steps.{Gathered, gathered-none, gathered-skip, gathered-more, gathered-all}
 use Rattle.constraint.proofs.demands.Statement.{statement}
 use Rattle.constraint.proofs.demands.Tie as tie
@@ -17,7 +17,7 @@ Inv-loop y e r₀ n m₀ i₀ r m i = (i ≤ n) × (r .ok ≡ true) × Gathered 
 abbrev μ-loop : tie.MeasureT-loop
 μ-loop y e r₀ n m₀ i₀ r m i = n - i
 
-lengths : (c : tie.Start Inv-loop μ-loop) → (length (c .args .t1 .places) ≡ 4) × (length (c .args .t2 .args) ≡ 4)
+lengths : (c : tie.Start Inv-loop μ-loop) → (length (c .args .t1 .parameters) ≡ 4) × (length (c .args .t2 .args) ≡ 4)
 lengths c = (search (needs, map-length), search (needs, map-length))
 
 never-requires : tie.Need-never-requires Inv-loop μ-loop

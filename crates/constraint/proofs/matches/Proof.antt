@@ -5,7 +5,7 @@ use borrow.Author.Needs.{needs}
 use borrow.Author.Tests.{eq-eqb, ne-eqb}
 use lib.Dec.{eqb}
 use lib.ListN.{length}
-use Rattle.laws.proofs.Places.{map-length}
+use Rattle.laws.proofs.Arrays.{map-length}
 use Rattle.meaning.specs.Events as Events
 use Rattle.table.specs.Tables.{viewSymbol}
 use Rattle.record.specs.Records.{viewEvent}
@@ -19,7 +19,7 @@ counts : (c : tie.Start) (b : Bool) → let y = c .args .y in let e = c .args .e
 counts c b h =
     let y = c .args .y in
     let e = c .args .e in
-    let l : length (y .places) ≡ 4 = search (needs, map-length) in
+    let l : length (y .parameters) ≡ 4 = search (needs, map-length) in
     let m : length (e .args) ≡ 4 = search (needs, map-length) in
     matches-counts y e l (c .pre .0) m (c .pre .1) ∙ ap (λ (b : Bool). b && eqb (y .count) (e .count)) h
 

@@ -15,7 +15,7 @@ use Rattle.laws.proofs.Parts.{pad-at}
 use Rattle.pattern.specs.Regex.{lit}
 use Rattle.meaning.specs.Events as Events
 use Rattle.meaning.specs.Meaning.{noSymbol}
-use Rattle.meaning.specs.Book.{soundPlace, boundIn}
+use Rattle.meaning.specs.Book.{soundParameter, boundIn}
 use Rattle.form.specs.Text.{Bytes, Span}
 use Rattle.form.specs.Scan.{go, fail, nameEnd, part}
 use Rattle.form.specs.Lines.{indexOf}
@@ -38,9 +38,9 @@ getD-in f (x ∷ l) zero d e h = refl
 getD-in f (x ∷ l) (suc i) d e h = getD-in f l i d e (omega arith)
 
 -- a sound place of few variables is one of 32
-wider : (n : ℕ) → n ≤ 32 → (p : Events.Place) → soundPlace n p ≡ true → soundPlace 32 p ≡ true
-wider n h Events.Place.ignored e = refl
-wider n h (Events.Place.names v) e = lt-ltb v 32 (omega (arith, ltb-true v n e))
+wider : (n : ℕ) → n ≤ 32 → (p : Events.Parameter) → soundParameter n p ≡ true → soundParameter 32 p ≡ true
+wider n h Events.Parameter.ignored e = refl
+wider n h (Events.Parameter.names v) e = lt-ltb v 32 (omega (arith, ltb-true v n e))
 
 -- a ready table and its plain view
 module _ (s : Bytes) (t : Table) (ready : Ready s t) where
@@ -68,8 +68,8 @@ module _ (s : Bytes) (t : Table) (ready : Ready s t) where
     mem : List·Memᴰ plain (viewTable t .table)
     mem = mem-getD _ a noSymbol known
 
-    few : length (plain .places) ≤ 4
-    few = leb-true _ 4 (all-at _ (ready .fewPlaces) mem)
+    few : length (plain .parameters) ≤ 4
+    few = leb-true _ 4 (all-at _ (ready .fewParameters) mem)
 
     coded : getD (t .symbols) a d ≡ symbolOf plain
     unfolding tableOf
@@ -82,12 +82,12 @@ module _ (s : Bytes) (t : Table) (ready : Ready s t) where
     viewed : viewSymbol (getD (t .symbols) a d) ≡ plain
     viewed = ap viewSymbol coded ∙ view-symbol plain few
 
-    fits : (getD (t .symbols) a d .count ≤ 4) × (all (soundPlace 32) (viewSymbol (getD (t .symbols) a d) .places) ≡ true)
+    fits : (getD (t .symbols) a d .count ≤ 4) × (all (soundParameter 32) (viewSymbol (getD (t .symbols) a d) .parameters) ≡ true)
     unfolding symbolOf
     fits =
         let sound = all-at _ (ready .declared) mem in
         let e : t .variables ≤ 32 = omega arith in
-        (rw coded few, rw viewed (all-of _ (plain .places) (λ p m. wider _ e p (all-at _ sound m))))
+        (rw coded few, rw viewed (all-of _ (plain .parameters) (λ p m. wider _ e p (all-at _ sound m))))
 
 -- what is left to say of a name that is short enough and not one too many
 name-at : (s : Bytes) (l : List Span) (used q e a : ℕ) → e ≡ nameEnd s q → e - q ≤ 12 → used < 31 → a ≡ indexOf s l (part s q e)
@@ -137,15 +137,22 @@ find-requires c κs =
       rw names-symbols (within _ _ r),
     )
 
+-- the stops before the name is looked for: its end, and the beginning
+abbrev ended : tie.After-find → tie.After-name-end
+ended c = c .before .before .before .before
+
+abbrev begun : tie.After-find → tie.Start
+begun c = ended c .before .before
+
 -- what is left to say once the name has been looked for
-known-name : (c : tie.After-find) → let x = c .before .before .before .before .before .before .args in
+known-name : (c : tie.After-find) → let x = begun c .args in
     let l = viewTable (x .t2) .symbols in
-    let e = c .before .before .before .before .name-end .result in
+    let e = ended c .name-end .result in
     Parse.nameAtom (x .s .now) l (x .used) (x .q)
     ≡ cond (ltb (c .find .result) (length l)) (record { step = go e; tree = lit (c .find .result) }) (Parse.failed (fail 5 (x .q)))
 known-name c =
-    let x = c .before .before .before .before .before .before .args in
-    let n = c .before .before .before .before .name-end in
+    let x = begun c .args in
+    let n = ended c .name-end in
     name-at (x .s .now) (viewTable (x .t2) .symbols) (x .used) (x .q) (n .result) (c .find .result) (n .ensures)
     (c .before .before .before .if1 .left) (c .before .before .if2 .left) (rw (← names-symbols (x .t2)) (c .find .ensures))
 
@@ -157,8 +164,9 @@ element-copy-out-y c = search needs
 
 bound-in-requires : tie.Need-bound-in-requires
 bound-in-requires c κs =
-    let start = c .before .before .before .before .before .before .before .before in
-    fits (start .args .s .now) (start .args .t2) (start .pre .ready) (c .before .before .find .result) (c .before .if3 .taken) _
+    let f = c .before .before in
+    let start = begun f in
+    fits (start .args .s .now) (start .args .t2) (start .pre .ready) (f .find .result) (c .before .if3 .taken) _
 
 add-literal : tie.Need-add-literal
 add-literal c = search needs
@@ -172,15 +180,16 @@ literal-requires c κs = search needs
 returns-3 : tie.Need-returns-3
 unfolding parsedOf
 returns-3 c =
-    let start = c .before .before .before .before .before .before .before .before .before .before in
+    let f = c .before .before .before .before in
+    let start = begun f in
     let s = start .args .s .now in
     let t = start .args .t2 in
-    let a = c .before .before .before .before .find .result in
+    let a = f .find .result in
     let h = c .before .before .before .if3 .taken in
     let r = start .pre .ready in
-    let b = c .before .bound-in .ensures ∙ ap (λ y. boundIn (y .places)) (viewed s t r a h _) in
+    let b = c .before .bound-in .ensures ∙ ap (λ y. boundIn (y .parameters)) (viewed s t r a h _) in
     rw (
-      known-name (c .before .before .before .before),
+      known-name f,
       named s t r,
       lt-ltb a (t .count) h,
       ← add-one (start .args .used),
@@ -192,11 +201,12 @@ failed-requires-3 c κs = search needs
 
 returns-4 : tie.Need-returns-4
 returns-4 c =
-    let start = c .before .before .before .before .before .before .before .before in
+    let f = c .before .before in
+    let start = begun f in
     let s = start .args .s .now in
     let t = start .args .t2 in
-    let a = c .before .before .find .result in
-    rw (known-name (c .before .before), named s t (start .pre .ready), le-ltb a (t .count) (c .before .if3 .left))
+    let a = f .find .result in
+    rw (known-name f, named s t (start .pre .ready), le-ltb a (t .count) (c .before .if3 .left))
     (c .failed3 .ensures ∙ failed-parsed _ _ 5 _ (omega arith))
 
 pub name-atom-spec : {M : Type 1} → statement M

@@ -6,7 +6,7 @@ use borrow.Author.Needs.{needs}
 use borrow.Fn.Kinds.{In}
 use borrow.Fn.PlainCycle.{Measures, is, falls, and}
 use lib.ListN.{length}
-use Rattle.meaning.specs.Events.{Place}
+use Rattle.meaning.specs.Events.{Parameter}
 use Rattle.form.specs.Scan.{nextWord}
 use Rattle.form.specs.Lines.{argumentOf}
 use Rattle.form.proofs.Scans.{wordEnd-ge, wordEnd-le}
@@ -51,15 +51,25 @@ module _ (t : ℕ) where
   next-word-requires : lts.Need-next-word-requires (known t) (given t) own.Post
   next-word-requires c κs = search needs
 
+  -- the stops: the beginning, before the step to the next word; this step, before the word's end; this end, before its argument
+  abbrev begun : lts.After-next-word (known t) (given t) own.Post → lts.Start (known t) (given t) own.Post
+  begun c = c .before .before
+
+  abbrev stepped-to : lts.After-word-end (known t) (given t) own.Post → lts.After-next-word (known t) (given t) own.Post
+  stepped-to c = c .before .before .before .before .before
+
+  abbrev worded : lts.After-argument-of (known t) (given t) own.Post → lts.After-word-end (known t) (given t) own.Post
+  worded c = c .before .before .before
+
   -- the step behind p
   step : (c : lts.After-next-word (known t) (given t) own.Post) →
       let r = c .next-word .result in
-      nextWord (c .before .before .args .s .now) (c .before .before .args .p) ≡ record { fault = r .fault; place = r .place }
+      nextWord (begun c .args .s .now) (begun c .args .p) ≡ record { fault = r .fault; place = r .place }
   step c = step-back (c .next-word .ensures)
 
   returns : lts.Need-returns (known t) (given t) own.Post
   returns c =
-      let b = c .before .before .before .before in
+      let b = begun (c .before .before) in
       arguments-kept (b .pre .1 .1) (arguments-fault _ _ _ _ (step (c .before .before)) (4 - b .args .y .count) (c .if1 .taken))
 
   add-t12 : lts.Need-add-t12 (known t) (given t) own.Post
@@ -67,13 +77,13 @@ module _ (t : ℕ) where
 
   returns-2 : lts.Need-returns-2 (known t) (given t) own.Post
   returns-2 c =
-      let b = c .before .before .before .before .before in
+      let b = begun (c .before .before .before) in
       arguments-kept (b .pre .1 .1)
       (arguments-end _ _ _ _ (step (c .before .before .before)) (c .before .if1 .left) (4 - b .args .y .count) (c .if2 .taken))
 
   returns-3 : lts.Need-returns-3 (known t) (given t) own.Post
   returns-3 c =
-      let b = c .before .before .before .before .before .before in
+      let b = begun (c .before .before .before .before) in
       arguments-kept (b .pre .1 .1)
       (arguments-full _ _ _ _ (step (c .before .before .before .before)) (c .before .before .if1 .left) (c .before .if2 .left) (b .args .y .count)
       (c .if3 .taken))
@@ -83,12 +93,12 @@ module _ (t : ℕ) where
 
   -- the word that is read stands inside the text
   within : (c : lts.After-word-end (known t) (given t) own.Post) →
-      let n = c .before .before .before .before .before .next-word .result in
+      let n = stepped-to c .next-word .result in
       let e = c .word-end .result in
-      (n .place ≤ e) × (e ≤ length (c .before .before .before .before .before .before .before .args .s .now))
+      (n .place ≤ e) × (e ≤ length (begun (stepped-to c) .args .s .now))
   within c =
-      let b = c .before .before .before .before .before .before .before in
-      let n = c .before .before .before .before .before in
+      let b = begun (stepped-to c) in
+      let n = stepped-to c in
       let s = b .args .s .now in
       let q = n .next-word .result .place in
       let i : q ≤ length s = omega (arith, next-inside s (b .args .p) (b .pre .1 .3), ap (λ x. x .place) (step n)) in
@@ -97,7 +107,7 @@ module _ (t : ℕ) where
   argument-fault-requires : lts.Need-argument-fault-requires (known t) (given t) own.Post
   argument-fault-requires c κs =
       let w = within c in
-      (c .before .before .before .before .before .before .before .pre .1 .0, w .0, w .1)
+      (begun (stepped-to c) .pre .1 .0, w .0, w .1)
 
   returns-4 : lts.Need-returns-4 (known t) (given t) own.Post
   returns-4 c =
@@ -105,7 +115,7 @@ module _ (t : ℕ) where
       let w = f .before in
       let k = w .before in
       let n = k .before .before .before .before in
-      let b = n .before .before in
+      let b = begun n in
       arguments-kept (b .pre .1 .1)
       (argument-wrong _ _ _ _ (step n) (k .before .before .if1 .left) (k .before .if2 .left) (b .args .y .count) (k .if3 .left) (w .word-end .ensures)
       (f .argument-fault .ensures) (c .if4 .taken))
@@ -114,11 +124,11 @@ module _ (t : ℕ) where
   argument-of-requires c κs = argument-fault-requires (c .before .before) κs
 
   -- the argument that is read
-  abbrev argument : (c : lts.After-argument-of (known t) (given t) own.Post) → Place
+  abbrev argument : (c : lts.After-argument-of (known t) (given t) own.Post) → Parameter
   argument c =
-      let w = c .before .before .before in
-      let n = w .before .before .before .before .before in
-      let b = n .before .before in
+      let w = worded c in
+      let n = stepped-to w in
+      let b = begun n in
       argumentOf (b .args .s .now) (viewTable (b .args .t) .variables) (n .next-word .result .place) (w .word-end .result)
 
   mul-t14 : lts.Need-mul-t14 (known t) (given t) own.Post
@@ -132,9 +142,9 @@ module _ (t : ℕ) where
 
   arguments-from-requires : lts.Need-arguments-from-requires (known t) (given t) own.Post
   arguments-from-requires c κs =
-      let b = c .before .before .before .before .before .before .before .before .before .before in
+      let b = begun (stepped-to (worded c)) in
       let m = more-kept (b .pre .1 .1) (c .before .before .before .before .if3 .left) (argument c) (c .argument-of .ensures) in
-      (omega arith, (b .pre .1 .0, m, omega arith, within (c .before .before .before) .1))
+      (omega arith, (b .pre .1 .0, m, omega arith, within (worded c) .1))
 
   returns-5 : lts.Need-returns-5 (known t) (given t) own.Post
   returns-5 c =
@@ -143,7 +153,7 @@ module _ (t : ℕ) where
       let w = f .before in
       let k = w .before in
       let n = k .before .before .before .before in
-      let b = n .before .before in
+      let b = begun n in
       more-reads (b .pre .1 .1) (k .if3 .left) (argument o) (o .argument-of .ensures) _ _ _ (c .arguments-from .ensures)
       (argument-next _ _ _ _ (step n) (k .before .before .if1 .left) (k .before .if2 .left) (b .args .y .count) (k .if3 .left) (w .word-end .ensures)
       (f .argument-fault .ensures) (o .before .if4 .left))

@@ -55,22 +55,32 @@ module _ (m : ℕ) where
   next-word-requires : lts.Need-next-word-requires (calls m) (given m) variables-from.Post
   next-word-requires c κs = search needs
 
+  -- the stops: the beginning, before the step to the next word; this step, before the word's end; this end, before the table with the word
+  abbrev begun : lts.After-next-word (calls m) (given m) variables-from.Post → lts.Start (calls m) (given m) variables-from.Post
+  begun c = c .before .before
+
+  abbrev stepped-to : lts.After-word-end (calls m) (given m) variables-from.Post → lts.After-next-word (calls m) (given m) variables-from.Post
+  stepped-to c = c .before .before .before .before .before
+
+  abbrev worded : lts.After-with-variable (calls m) (given m) variables-from.Post → lts.After-word-end (calls m) (given m) variables-from.Post
+  worded c = c .before .before .before
+
   abbrev room : lts.After-next-word (calls m) (given m) variables-from.Post → ℕ
-  room c = 4 - c .before .before .args .t .variables
+  room c = 4 - begun c .args .t .variables
 
   -- behind the place, the step comes that the code has of it
   stepped : (c : lts.After-next-word (calls m) (given m) variables-from.Post)
-      → let x = c .before .before in let n = c .next-word .result in
+      → let x = begun c in let n = c .next-word .result in
       nextWord (x .args .s .now) (x .args .p) ≡ record { fault = n .fault; place = n .place }
   stepped c = step-back (c .next-word .ensures)
 
   -- an answer with the table as it was
   kept : {y : Step} (c : lts.After-next-word (calls m) (given m) variables-from.Post)
-      → let a = c .before .before .args in
+      → let a = begun c .args in
       let xs = viewTable (a .t) .variables in
       let v = variablesFrom (a .s .now) (room c) xs (a .p) in
       v ≡ record { step = y; spans = xs } → record { fault = y .fault; place = y .place; table = a .t } ≡ variablesRead v
-  kept c = let x = c .before .before in variables-kept (x .args .s .now) (x .args .t) (x .pre .1 .0) (x .pre .1 .1)
+  kept c = let x = begun c in variables-kept (x .args .s .now) (x .args .t) (x .pre .1 .0) (x .pre .1 .1)
 
   returns : lts.Need-returns (calls m) (given m) variables-from.Post
   returns c =
@@ -97,26 +107,26 @@ module _ (m : ℕ) where
 
   -- the next word is inside the text
   word : (c : lts.After-word-end (calls m) (given m) variables-from.Post)
-      → let n = c .before .before .before .before .before in
+      → let n = stepped-to c in
       let e = c .word-end .result in
-      (n .next-word .result .place ≤ e) × (e ≤ length (n .before .before .args .s .now))
+      (n .next-word .result .place ≤ e) × (e ≤ length (begun n .args .s .now))
   word c =
-      let n = c .before .before .before .before .before in
-      let x = n .before .before in
+      let n = stepped-to c in
+      let x = begun n in
       let e = ap (λ y. y .place) (stepped n) in
       word-within _ _ _ (c .word-end .ensures) (omega (arith, next-inside (x .args .s .now) (x .args .p) (x .pre .1 .2)))
 
   declare-fault-requires : lts.Need-declare-fault-requires (calls m) (given m) variables-from.Post
   declare-fault-requires c κs =
-      let x = c .before .before .before .before .before .before .before in
+      let x = begun (stepped-to c) in
       (x .pre .1 .0, omega arith, word c .0, word c .1)
 
   returns-4 : lts.Need-returns-4 (calls m) (given m) variables-from.Post
   unfolding viewTable
   returns-4 c =
       let w = c .before .before in
-      let n = w .before .before .before .before .before in
-      let v = n .before .before .args .t .variables in
+      let n = stepped-to w in
+      let v = begun n .args .t .variables in
       let z : 4 - v ≡ suc (4 - (v + 1)) = omega arith in
       kept n (variable-wrong _ _ _ (stepped n) (w .before .before .before .if1 .left) (w .before .before .if2 .left) _ z (w .word-end .ensures)
       (c .before .declare-fault .ensures) (c .if4 .taken))
@@ -130,33 +140,33 @@ module _ (m : ℕ) where
   -- the table with the new variable
   more : (c : lts.After-with-variable (calls m) (given m) variables-from.Post)
       → let w = c .before .before .before in
-      let n = w .before .before .before .before .before in
-      let x = n .before .before in
+      let n = stepped-to w in
+      let x = begun n in
       let spans = viewTable (x .args .t) .variables ++ (spanOf (n .next-word .result .place) (w .word-end .result) ∷ []) in
       Ready (x .args .s .now) (c .with-variable .result)
       × (viewTable (c .with-variable .result) ≡ record { variables = spans; symbols = []; table = [] })
   more c =
       let w = c .before .before .before in
-      let n = w .before .before .before .before .before in
-      let x = n .before .before in
+      let n = stepped-to w in
+      let x = begun n in
       let q = n .next-word .result .place in
       let i = span-inside (x .args .s .now) q (w .word-end .result) (word w .0) (word w .1) in
       rw (c .with-variable .ensures) (ready-variable (x .args .s .now) (x .args .t) (x .pre .1 .0) (x .pre .1 .1) (omega arith) _ i)
 
   variables-from-requires : lts.Need-variables-from-requires (calls m) (given m) variables-from.Post
   variables-from-requires c κs =
-      let w = c .before .before .before in
-      let x = w .before .before .before .before .before .before .before in
+      let w = worded c in
+      let x = begun (stepped-to w) in
       let e = c .with-variable .ensures in
       (omega (arith, x .pre .0, ap (λ u. u .variables) e), (more c .0, ap (λ u. u .count) e ∙ x .pre .1 .1, word w .1))
 
   returns-5 : lts.Need-returns-5 (calls m) (given m) variables-from.Post
   unfolding viewTable
   returns-5 c =
-      let w = c .before .before .before .before in
-      let n = w .before .before .before .before .before in
+      let w = worded (c .before) in
+      let n = stepped-to w in
       let r = c .before .with-variable in
-      let z : 4 - n .before .before .args .t .variables ≡ suc (4 - r .result .variables) = omega (arith, ap (λ u. u .variables) (r .ensures)) in
+      let z : 4 - begun n .args .t .variables ≡ suc (4 - r .result .variables) = omega (arith, ap (λ u. u .variables) (r .ensures)) in
       rw (
         variable-next _ _ _ (stepped n) (w .before .before .before .if1 .left) (w .before .before .if2 .left) _ z (w .word-end .ensures)
             (c .before .before .before .declare-fault .ensures) (c .before .before .if4 .left),

@@ -75,8 +75,15 @@ space-at c = sym (c .before .peek .ensures) ∙ c .if1 .left
 goes-on : (c : tie.Else1) → let a = c .before .before .before .args in a .p + 1 ≤ length (a .s .now)
 goes-on c = let a = c .before .before .before .args in before-end (a .s .now) (a .p) 32 (omega arith) (eq-eqb _ 32 (space-at c))
 
+-- the stops before the pattern's line is read: the space behind the word, and the beginning
+abbrev spaced : tie.After-last-line → tie.Else1
+spaced c = c .before .before .before
+
+abbrev begun : tie.After-last-line → tie.Start
+begun c = spaced c .before .before .before
+
 -- the pattern's line as the code has read it
-line-read : (c : tie.After-last-line) → let a = c .before .before .before .before .before .before .args in
+line-read : (c : tie.After-last-line) → let a = begun c .args in
     c .last-line .result ≡ parsedOf (vars (a .t)) 0 (line (a .s .now) (a .t) (a .p))
 unfolding Parse.patternFrom
 line-read c = c .last-line .ensures _ 0 _ (c .before .alternation .ensures)
@@ -117,12 +124,13 @@ last-line-requires c κs =
 
 returns-2 : tie.Need-returns-2
 returns-2 c =
-    let a = c .before .before .before .before .before .before .before .before .args in
-    let e = line-read (c .before .before) in
-    rw (faulty (a .s .now) (a .t) (a .p) (space-at (c .before .before .before .before .before)) e (c .if2 .taken)) e
+    let last = c .before .before in
+    let a = begun last .args in
+    let e = line-read last in
+    rw (faulty (a .s .now) (a .t) (a .p) (space-at (spaced last)) e (c .if2 .taken)) e
 
 -- the pattern's first token: behind `match`, a space, and the spaces that follow
-first : (c : tie.After-last-line) → let a = c .before .before .before .before .before .before .args in
+first : (c : tie.After-last-line) → let a = begun c .args in
     c .before .before .spaces-end .result ≡ spacesEnd (a .s .now) (a .p + 1)
 first c = c .before .before .spaces-end .ensures
 
@@ -132,9 +140,9 @@ failed-requires-2 c κs = search needs
 returns-3 : tie.Need-returns-3
 returns-3 c =
     let last = c .before .before .before .before .before in
-    let a = last .before .before .before .before .before .before .args in
+    let a = begun last .args in
     rw (
-      empty (a .s .now) (a .t) (a .p) (space-at (last .before .before .before)) (line-read last) (c .before .before .before .if2 .left)
+      empty (a .s .now) (a .t) (a .p) (space-at (spaced last)) (line-read last) (c .before .before .before .if2 .left)
           (c .before .if3 .taken),
       ← first last,
     )
@@ -146,11 +154,11 @@ all-bits-requires c κs = c .before .before .before .before .before .before .bef
 returns-4 : tie.Need-returns-4
 returns-4 c =
     let last = c .before .before .before .before .before .before in
-    let start = last .before .before .before .before .before .before in
+    let start = begun last in
     let a = start .args in
     let e = line-read last in
     rw (
-    bound (a .s .now) (a .t) (a .p) (space-at (last .before .before .before)) e (c .before .before .before .before .if2 .left) (start .pre .ready)
+    bound (a .s .now) (a .t) (a .p) (space-at (spaced last)) e (c .before .before .before .before .if2 .left) (start .pre .ready)
     (c .before .before .if3 .left) (sym (c .before .all-bits .ensures) ∙ c .if4 .taken)
     )
     e
@@ -161,10 +169,10 @@ failed-requires-3 c κs = search needs
 returns-5 : tie.Need-returns-5
 returns-5 c =
     let last = c .before .before .before .before .before .before .before in
-    let start = last .before .before .before .before .before .before in
+    let start = begun last in
     let a = start .args in
     rw (
-      unbound (a .s .now) (a .t) (a .p) (space-at (last .before .before .before)) (line-read last) (c .before .before .before .before .before .if2 .left)
+      unbound (a .s .now) (a .t) (a .p) (space-at (spaced last)) (line-read last) (c .before .before .before .before .before .if2 .left)
           (start .pre .ready) (c .before .before .before .if3 .left) (sym (c .before .before .all-bits .ensures) ∙ c .before .if4 .left),
       ← first last,
     )

@@ -32,7 +32,7 @@ use Rattle.book.specs.Answers.{answerOf}
 use Rattle.book.specs.Books.{emptyBook, bookFor, readingFor, reading}
 use Rattle.book.specs.declared.Book.{Book}
 use Rattle.book.specs.declared.Reading.{Reading}
-use Rattle.book.specs.declared.Answer.the-variants as Answer
+use Rattle.book.specs.declared.ReadingAnswer.the-variants as Answer
 use Rattle.reader.proofs.Found.{lines-ready, lines-viewed}
 use Rattle.reader.proofs.read.Statement.{statement}
 use Rattle.reader.proofs.read.Tie as tie

@@ -6,14 +6,14 @@ use borrow.Author.Needs.{needs}
 use lib.ListN.{length}
 use Rattle.laws.proofs.Turns.{insert-found, insert-over, insert-put}
 use Rattle.meaning.specs.Rows.{compareValuations}
-use Rattle.work.specs.Bounded.{rowLimit}
+use Rattle.bounded.specs.Bounded.{rowLimit}
 use Rattle.rows.specs.Valuations.{valuationsIn}
 use Rattle.rows.proofs.Valuations.{in-length, in-counted, in-full}
 use Rattle.rows.proofs.insert_row.Statement.{statement}
 use Rattle.rows.proofs.insert_row.Tie as tie
 
-place-of-requires : tie.Need-place-of-requires
-place-of-requires c κs = search needs
+insertion-point-requires : tie.Need-insertion-point-requires
+insertion-point-requires c κs = search needs
 
 -- there are places for them
 room : (s : tie.Start) → s .args .n ≤ length (valuationsIn (s .args .words .now))
@@ -24,14 +24,14 @@ returns c =
     let s = c .before .before .before in
     let a = s .args in
     let w = a .words .now in
-    let there = c .before .place-of .ensures .0 (c .if1 .taken) in
+    let there = c .before .insertion-point .ensures .0 (c .if1 .taken) in
     in-counted (a .n) w ∙ insert-found compareValuations rowLimit (a .n) (valuationsIn w) (a .x) (s .pre .0) (room s) there
 
 returns-2 : tie.Need-returns-2
 returns-2 c =
     let s = c .before .before .before .before in
     let a = s .args in
-    let p = c .before .before .place-of in
+    let p = c .before .before .insertion-point in
     let h = p .ensures .1 (c .before .if1 .left) in
     let w = a .words .now in
     in-full 2065 w (omega arith)
@@ -40,13 +40,13 @@ returns-2 c =
 
 shift-requires : tie.Need-shift-requires
 shift-requires c κs =
-    let p = c .before .before .before .place-of in
+    let p = c .before .before .before .insertion-point in
     (p .ensures .1 (c .before .before .if1 .left) .0, omega arith)
 
 put-requires : tie.Need-put-requires
 put-requires c κs =
     let f = c .before .before .before .before in
-    omega (arith, f .before .place-of .ensures .1 (f .if1 .left) .0)
+    omega (arith, f .before .insertion-point .ensures .1 (f .if1 .left) .0)
 
 add-result : tie.Need-add-result
 add-result c = search needs
@@ -54,7 +54,7 @@ add-result c = search needs
 returns-3 : tie.Need-returns-3
 returns-3 c =
     let f = c .before .before .before .before .before in
-    let p = f .before .place-of in
+    let p = f .before .insertion-point in
     let s = f .before .before .before in
     let a = s .args in
     let h = p .ensures .1 (f .if1 .left) in
@@ -66,4 +66,4 @@ returns-3 c =
     (record { upto = h .0; before = m .ensures .0; behind = m .ensures .1 }) (c .put .ensures)
 
 pub insert-row-spec : {M : Type 1} → statement M
-insert-row-spec = tie.close (tie.spec place-of-requires returns returns-2 shift-requires put-requires add-result returns-3)
+insert-row-spec = tie.close (tie.spec insertion-point-requires returns returns-2 shift-requires put-requires add-result returns-3)

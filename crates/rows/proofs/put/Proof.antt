@@ -3,7 +3,7 @@ use mathlib.Core.Path.{sym, ap, _∙_}
 use native.Mathlib.Omega.{arith}
 use borrow.Author.Needs.{needs}
 use lib.ListN.{getD, set}
-use Rattle.laws.proofs.Places.{by-index}
+use Rattle.laws.proofs.Arrays.{by-index}
 use Rattle.rows.specs.Valuations.{valuationsIn}
 use Rattle.rows.proofs.Valuations.{in-stored}
 use Rattle.rows.proofs.put.Statement.{statement}

@@ -12,8 +12,8 @@ use Rattle.sets.proofs.Sets.{in-length, in-counted, in-full}
 use Rattle.sets.proofs.insert.Statement.{statement}
 use Rattle.sets.proofs.insert.Tie as tie
 
-place-of-requires : tie.Need-place-of-requires
-place-of-requires c κs = search needs
+insertion-point-requires : tie.Need-insertion-point-requires
+insertion-point-requires c κs = search needs
 
 -- there are places for the elements
 room : (s : tie.Start) → s .args .n ≤ length (disjunctsIn (s .args .words .now))
@@ -24,14 +24,14 @@ returns c =
     let s = c .before .before .before in
     let a = s .args in
     let w = a .words .now in
-    let there = c .before .place-of .ensures .0 (c .if1 .taken) in
+    let there = c .before .insertion-point .ensures .0 (c .if1 .taken) in
     in-counted (a .n) w ∙ insert-found compareDisjuncts 128 (a .n) (disjunctsIn w) (viewDisjunct (a .d)) (s .pre .0) (room s) there
 
 returns-2 : tie.Need-returns-2
 returns-2 c =
     let s = c .before .before .before .before in
     let a = s .args in
-    let p = c .before .before .place-of in
+    let p = c .before .before .insertion-point in
     let h = p .ensures .1 (c .before .if1 .left) in
     let w = a .words .now in
     in-full 129 w (omega arith)
@@ -40,13 +40,13 @@ returns-2 c =
 
 shift-requires : tie.Need-shift-requires
 shift-requires c κs =
-    let h = c .before .before .before .place-of .ensures .1 (c .before .before .if1 .left) in
+    let h = c .before .before .before .insertion-point .ensures .1 (c .before .before .if1 .left) in
     (h .0, omega (arith, c .before .before .before .before .before .pre .0))
 
 put-requires : tie.Need-put-requires
 put-requires c κs =
     let s = c .before .before .before .before .before .before .before in
-    let p = c .before .before .before .before .before .place-of in
+    let p = c .before .before .before .before .before .insertion-point in
     omega (arith, p .ensures .1 (c .before .before .before .before .if1 .left) .0, s .pre .0)
 
 add-result : tie.Need-add-result
@@ -56,7 +56,7 @@ returns-3 : tie.Need-returns-3
 returns-3 c =
     let s = c .before .before .before .before .before .before .before .before in
     let a = s .args in
-    let p = c .before .before .before .before .before .before .place-of in
+    let p = c .before .before .before .before .before .before .insertion-point in
     let h = p .ensures .1 (c .before .before .before .before .before .if1 .left) in
     let m = c .before .before .shift in
     in-counted (a .n + 1) (c .put .last .0)
@@ -68,4 +68,4 @@ returns-3 c =
 pub insert-spec : {M : Type 1} → statement M
 insert-spec =
     tie.close
-    (tie.spec place-of-requires returns returns-2 shift-requires put-requires add-result returns-3)
+    (tie.spec insertion-point-requires returns returns-2 shift-requires put-requires add-result returns-3)

@@ -3,7 +3,7 @@ use mathlib.Core.Path.{_≡_, ap, _∙_}
 use Prim.Native.Nat.{_+_, _*_}
 use lib.ListN.{length, getD, set}
 use borrow.Author.Needs.{needs}
-use Rattle.laws.proofs.Places.{map-length}
+use Rattle.laws.proofs.Arrays.{map-length}
 use Rattle.slot.specs.Slots.{viewSlot}
 use Rattle.disjunct.proofs.Slots.{noSlot}
 use Rattle.sets.proofs.Views.{write-four}

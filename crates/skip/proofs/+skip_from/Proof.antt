@@ -12,8 +12,8 @@ use Rattle.laws.specs.Sets.{Grown, insert, grown, within}
 use Rattle.meaning.specs.Events as Events
 use Rattle.meaning.specs.Labels.{Disjunct, compareDisjuncts}
 use Rattle.meaning.specs.Room.{heldLimit}
-use Rattle.work.specs.Bounded.{growFew}
-use Rattle.work.proofs.Skips.{few-full}
+use Rattle.bounded.specs.Bounded.{growFew}
+use Rattle.bounded.proofs.Skips.{few-full}
 use Rattle.constraint.specs.Constraints.{viewDemand, demandsIn}
 use Rattle.constraint.proofs.Views.{emptyDemand, demands-end, demand-below}
 use Rattle.disjunct.specs.Disjuncts.{viewDisjunct}
@@ -65,13 +65,13 @@ module _ (n : ℕ) where
     abbrev held : List Disjunct
     held = take (s .args .m) (disjunctsIn (s .args .out .now))
 
-    places : length (s .args .t2 .demands) ≡ 4
-    places = sym (length-map (s .args .t2 .demands) _) ∙ s .good .1 .0 .1 .1 .1 .1 .0 .1 .0 .1
+    parameters : length (s .args .t2 .demands) ≡ 4
+    parameters = sym (length-map (s .args .t2 .demands) _) ∙ s .good .1 .0 .1 .1 .1 .1 .0 .1 .0 .1
 
     ahead : s .args .i < s .args .t2 .count
         → growFew later (growFew this (grown held)) ≡ growFew (given D (drop (s .args .i) (demandsIn (s .args .t2)))) (grown held)
     ahead h =
-        sym (given-ahead (s .args .t2) D (s .args .i) (grown held) h (omega (arith, places, s .pre .1 .1 .few)))
+        sym (given-ahead (s .args .t2) D (s .args .i) (grown held) h (omega (arith, parameters, s .pre .1 .1 .few)))
 
     -- an answer by what the later demands give into k, where this one gives k
     by-later : {g : Grown Disjunct} (k : List Disjunct) → s .args .i < s .args .t2 .count → growFew this (grown held) ≡ grown k
@@ -79,7 +79,7 @@ module _ (n : ℕ) where
     by-later k h e p = p ∙ sym (ap (growFew later) e) ∙ ahead h
 
     variable : s .args .i < s .args .t2 .count → demand .variable < 4
-    variable h = demand-below (s .args .t2) (s .pre .1 .1) places (s .args .i) h
+    variable h = demand-below (s .args .t2) (s .pre .1 .1) parameters (s .args .i) h
 
   returns : lts.Need-returns (calls n) (at n) skip-from.Post
   returns c =

@@ -7,7 +7,7 @@ use native.Mathlib.Omega.{arith}
 use lib.Dec.{eqb}
 use lib.ListN.{length, take}
 use Rattle.laws.proofs.Lists.{taken-none}
-use Rattle.work.specs.Bounded.{pick}
+use Rattle.bounded.specs.Bounded.{pick}
 use Rattle.disjunct.specs.Disjuncts.{viewDisjunct}
 use Rattle.sets.specs.Sets.{disjunctsIn}
 use Rattle.sets.proofs.Sets.{in-length}
@@ -16,12 +16,12 @@ use Rattle.skip.proofs.label.Statement.{statement}
 use Rattle.skip.proofs.label.Tie as tie
 
 abbrev Inv-loop : tie.InvT-loop
-Inv-loop held at n p out₀ places m₀ i₀ out m i =
+Inv-loop held at n p out₀ parameters m₀ i₀ out m i =
     let l = disjunctsIn held in
     (m ≤ i) × (i ≤ n) × (take m (disjunctsIn out) ++ ahead p at l n i ≡ pick (eqb p) (take n at) (take n l))
 
 abbrev μ-loop : tie.MeasureT-loop
-μ-loop held at n p out₀ places m₀ i₀ out m i = n - i
+μ-loop held at n p out₀ parameters m₀ i₀ out m i = n - i
 
 loop-holds : tie.Need-loop-holds Inv-loop μ-loop
 loop-holds c = (omega arith, omega arith, refl)
@@ -54,7 +54,7 @@ loop-again c =
     let ds = disjunctsIn (a .held .now) in
     let done = disjunctsIn (l .out) in
     let rest = ahead (a .p) (a .at .now) ds (a .n) (l .i + 1) in
-    let hp : a .n ≤ length (a .at .now) = omega (arith, c .before .before .before .before .places .given .0) in
+    let hp : a .n ≤ length (a .at .now) = omega (arith, c .before .before .before .before .parameters .given .0) in
     let hl : a .n ≤ length ds = omega (arith, in-length (a .held .now)) in
     let hd : l .m < length done = omega (arith, in-length (l .out)) in
     let test = c .before .before .loop-test .taken in

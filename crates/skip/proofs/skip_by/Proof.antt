@@ -11,8 +11,8 @@ use Rattle.laws.specs.Sets.{grown}
 use Rattle.laws.proofs.Lists.{taken-cons, taken-none}
 use Rattle.meaning.specs.Labels.{Disjunct, compareDisjuncts, skipOne}
 use Rattle.meaning.specs.Room.{fewExclusions}
-use Rattle.work.specs.Bounded.{growFew, skipped}
-use Rattle.work.proofs.Skips.{few-append, skipped-grow}
+use Rattle.bounded.specs.Bounded.{growFew, skipped}
+use Rattle.bounded.proofs.Skips.{few-append, skipped-grow}
 use Rattle.constraint.specs.Constraints.{viewConstraint}
 use Rattle.disjunct.specs.Disjuncts.{viewDisjunct}
 use Rattle.sets.specs.Sets.{disjunctsIn}

@@ -3,7 +3,7 @@ use borrow.Author.Needs.{needs}
 use mathlib.Core.Path.{sym, ap, _∙_}
 use lib.ListN.{take}
 use Rattle.laws.specs.Sets.{grown}
-use Rattle.work.specs.Bounded.{growFew}
+use Rattle.bounded.specs.Bounded.{growFew}
 use Rattle.disjunct.specs.Disjuncts.{viewDisjunct}
 use Rattle.sets.specs.Sets.{disjunctsIn}
 use Rattle.skip.proofs.Demands.{skip-met, skip-kept, kept-one}

@@ -12,8 +12,8 @@ use Rattle.laws.specs.Order.{ascending}
 use Rattle.laws.proofs.Maps.{mapped-cons, mapped-none}
 use Rattle.meaning.specs.Events as Events
 use Rattle.meaning.specs.Labels.{Disjunct, compareDisjuncts}
-use Rattle.work.specs.Bounded.{skippedThrough}
-use Rattle.work.proofs.Skips.{through-none, through-full, through-grown, through-never, skipped-sound}
+use Rattle.bounded.specs.Bounded.{skippedThrough}
+use Rattle.bounded.proofs.Skips.{through-none, through-full, through-grown, through-never, skipped-sound}
 use Rattle.constraint.specs.Constraints.{viewConstraint, noConstraint}
 use Rattle.constraint.proofs.Views.{never-view}
 use Rattle.sets.specs.Sets.{disjunctsIn}
@@ -47,8 +47,8 @@ skip-by-requires c κs =
     (t .before .loop .inv .1, t .before .before .pre .3 (t .before .loop .symbol) (t .loop-test .taken))
 
 -- there are sixteen constraints
-places : (s : tie.Start Inv-loop μ-loop) → length (s .args .t4) ≡ 16
-places s = search needs
+parameters : (s : tie.Start Inv-loop μ-loop) → length (s .args .t4) ≡ 16
+parameters s = search needs
 
 -- in a turn: this constraint, the later ones, and the set before
 module _ (t : tie.In-loop Inv-loop μ-loop) where
@@ -67,7 +67,7 @@ module _ (t : tie.In-loop Inv-loop μ-loop) where
       let a = t .before .before .args in
       ap (λ cs. skippedThrough cs held)
       (sym (mapped-cons viewConstraint (a .t4) (a .count) (t .before .loop .symbol) noConstraint (t .loop-test .taken)
-      (omega (arith, places (t .before .before)))))
+      (omega (arith, parameters (t .before .before)))))
       ∙ t .before .loop .inv .3
 
 returns : tie.Need-returns Inv-loop μ-loop

@@ -15,8 +15,8 @@ returns c = let a = c .before .before .before .args in sym (symbol-many (a .vari
 within-requires : tie.Need-within-requires
 within-requires c κs = search needs
 
-sound-places-requires : tie.Need-sound-places-requires
-sound-places-requires c κs = search needs
+sound-parameters-requires : tie.Need-sound-parameters-requires
+sound-parameters-requires c κs = search needs
 
 both-requires : tie.Need-both-requires
 both-requires c κs = search needs
@@ -25,10 +25,10 @@ returns-2 : tie.Need-returns-2
 returns-2 c =
     let t = c .before .before .before in
     let a = t .before .before .before .args in
-    c .both .ensures ∙ ap₂ _&&_ (c .before .before .within .ensures) (c .before .sound-places .ensures)
+    c .both .ensures ∙ ap₂ _&&_ (c .before .before .within .ensures) (c .before .sound-parameters .ensures)
     ∙ sym (symbol-parts (a .variables) (a .y) (t .if1 .left))
 
 pub sound-symbol-spec : {M : Type 1} → statement M
 sound-symbol-spec =
     tie.close
-    (tie.spec cast-kind returns within-requires sound-places-requires both-requires returns-2)
+    (tie.spec cast-kind returns within-requires sound-parameters-requires both-requires returns-2)

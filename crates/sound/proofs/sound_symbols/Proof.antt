@@ -39,7 +39,7 @@ loop-again c =
     let l = c .before .before .before .before .loop in
     let a = c .before .before .before .before .before .args in
     let t =
-    told-more (symbolSound (a .variables)) (a .t1) (a .n) (l .i) (record { kind = 0; count = 0; places = [] })
+    told-more (symbolSound (a .variables)) (a .t1) (a .n) (l .i) (record { kind = 0; count = 0; parameters = [] })
     (c .before .before .before .loop-test .taken) (omega arith) (l .inv .2) (c .before .sound-symbol .ensures) (c .if1 .taken) in
     (omega arith, l .inv .1, t)
 
@@ -47,7 +47,7 @@ returns : tie.Need-returns Inv-loop μ-loop
 returns c =
     let l = c .before .before .before .before .loop in
     let a = c .before .before .before .before .before .args in
-    told-stop (symbolSound (a .variables)) (a .t1) (a .n) (l .i) (record { kind = 0; count = 0; places = [] })
+    told-stop (symbolSound (a .variables)) (a .t1) (a .n) (l .i) (record { kind = 0; count = 0; parameters = [] })
     (c .before .before .before .loop-test .taken) (omega arith) (l .inv .2) (c .before .sound-symbol .ensures) (c .if1 .left)
 
 returns-2 : tie.Need-returns-2 Inv-loop μ-loop

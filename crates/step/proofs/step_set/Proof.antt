@@ -3,7 +3,7 @@ use mathlib.Core.Path.{sym, ap, _∙_}
 use lib.ListN.{take}
 use Rattle.laws.specs.Bits.{bit}
 use Rattle.laws.specs.Sets.{within}
-use Rattle.work.specs.Bounded.{pick, withStart, metSet}
+use Rattle.bounded.specs.Bounded.{pick, withStart, metSet}
 use Rattle.constraint.specs.Constraints.{viewConstraint}
 use Rattle.constraint.proofs.Views.{never-view}
 use Rattle.sets.specs.Sets.{disjunctsIn, grownIn}

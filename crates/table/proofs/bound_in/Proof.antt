@@ -10,8 +10,8 @@ use Rattle.laws.specs.Bits.{join}
 use Rattle.laws.proofs.Bits.{join-none, none-join}
 use Rattle.laws.specs.Lists.{all}
 use Rattle.laws.proofs.Lists.{and-true-split}
-use Rattle.meaning.specs.Book.{soundPlace, boundIn}
-use Rattle.table.specs.Tables.{viewPlace, viewSymbol}
+use Rattle.meaning.specs.Book.{soundParameter, boundIn}
+use Rattle.table.specs.Tables.{viewParameter, viewSymbol}
 use Rattle.table.proofs.Spans.{ahead, ahead-none, ahead-cons}
 use Rattle.table.proofs.Masks.{join-next}
 use Rattle.table.proofs.bound_in.Statement.{statement}
@@ -20,8 +20,8 @@ use Rattle.table.proofs.bound_in.Tie as tie
 -- what is joined so far, with what the places ahead bind, is what all bind
 abbrev Inv-loop : tie.InvT-loop
 Inv-loop y m₀ n i₀ m i =
-    let rest = ahead viewPlace (y .places) i n in
-    (i ≤ n) × (all (soundPlace 32) rest ≡ true) × (join m (boundIn rest) ≡ boundIn (viewSymbol y .places))
+    let rest = ahead viewParameter (y .parameters) i n in
+    (i ≤ n) × (all (soundParameter 32) rest ≡ true) × (join m (boundIn rest) ≡ boundIn (viewSymbol y .parameters))
 
 abbrev μ-loop : tie.MeasureT-loop
 μ-loop y m₀ n i₀ m i = n - i
@@ -38,21 +38,21 @@ element-copy-out-p c = omega arith
 
 -- the places ahead, by the first of them
 first : (c : tie.In-loop Inv-loop μ-loop) → let y = c .before .before .args .t1 in let i = c .before .loop .i in
-    ahead viewPlace (y .places) i (y .count)
-    ≡ viewPlace (getD (y .places) i (record { tag = 0; number = 0 })) ∷ ahead viewPlace (y .places) (i + 1) (y .count)
+    ahead viewParameter (y .parameters) i (y .count)
+    ≡ viewParameter (getD (y .parameters) i (record { tag = 0; number = 0 })) ∷ ahead viewParameter (y .parameters) (i + 1) (y .count)
 first c =
     let y = c .before .before .args .t1 in
-    let g : length (y .places) ≡ 4 = sym (length-map (y .places) _) ∙ c .before .before .good .0 .1 .1 .1 .1 .0 .1 .0 .1 in
-    ahead-cons viewPlace (y .places) (c .before .loop .i) (y .count) _ (c .loop-test .taken) (omega arith)
+    let g : length (y .parameters) ≡ 4 = sym (length-map (y .parameters) _) ∙ c .before .before .good .0 .1 .1 .1 .1 .0 .1 .0 .1 in
+    ahead-cons viewParameter (y .parameters) (c .before .loop .i) (y .count) _ (c .loop-test .taken) (omega arith)
 
 -- it is sound, and so are the others
 sound : (c : tie.In-loop Inv-loop μ-loop) → let y = c .before .before .args .t1 in let i = c .before .loop .i in
-    (soundPlace 32 (viewPlace (getD (y .places) i (record { tag = 0; number = 0 }))) ≡ true)
-    × (all (soundPlace 32) (ahead viewPlace (y .places) (i + 1) (y .count)) ≡ true)
-sound c = and-true-split _ _ (ap (all (soundPlace 32)) (sym (first c)) ∙ c .before .loop .inv .1)
+    (soundParameter 32 (viewParameter (getD (y .parameters) i (record { tag = 0; number = 0 }))) ≡ true)
+    × (all (soundParameter 32) (ahead viewParameter (y .parameters) (i + 1) (y .count)) ≡ true)
+sound c = and-true-split _ _ (ap (all (soundParameter 32)) (sym (first c)) ∙ c .before .loop .inv .1)
 
-place-bound-requires : tie.Need-place-bound-requires Inv-loop μ-loop
-place-bound-requires c κs = sound (c .before) .0
+parameter-bound-requires : tie.Need-parameter-bound-requires Inv-loop μ-loop
+parameter-bound-requires c κs = sound (c .before) .0
 
 add-i : tie.Need-add-i Inv-loop μ-loop
 add-i c = omega arith
@@ -64,14 +64,14 @@ loop-again : tie.Need-loop-again Inv-loop μ-loop
 unfolding join
 loop-again c =
     let l = c .before .before .before .loop in
-    (omega arith, sound (c .before .before) .1, join-next (l .m) (c .place-bound .ensures) (first (c .before .before)) ∙ l .inv .2)
+    (omega arith, sound (c .before .before) .1, join-next (l .m) (c .parameter-bound .ensures) (first (c .before .before)) ∙ l .inv .2)
 
 returns : tie.Need-returns Inv-loop μ-loop
 returns c =
     let l = c .before .loop in
     let y = c .before .before .args .t1 in
-    sym (ap (λ ps. join (l .m) (boundIn ps)) (ahead-none viewPlace (y .places) (l .i) (y .count) (c .loop-test .left)) ∙ join-none (l .m)) ∙ l .inv .2
+    sym (ap (λ ps. join (l .m) (boundIn ps)) (ahead-none viewParameter (y .parameters) (l .i) (y .count) (c .loop-test .left)) ∙ join-none (l .m)) ∙ l .inv .2
 
 pub bound-in-spec : {M : Type 1} → statement M
 bound-in-spec =
-    tie.close (tie.spec Inv-loop μ-loop loop-holds mul-p element-copy-out-p place-bound-requires add-i loop-less loop-again returns)
+    tie.close (tie.spec Inv-loop μ-loop loop-holds mul-p element-copy-out-p parameter-bound-requires add-i loop-less loop-again returns)

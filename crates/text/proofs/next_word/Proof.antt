@@ -17,24 +17,31 @@ spaces-end-requires c κs = search needs
 peek-requires : tie.Need-peek-requires
 peek-requires c κs = search needs
 
+-- the stops before the byte behind the spaces is seen: their end, and the beginning
+abbrev spaced : tie.After-peek → tie.After-spaces-end
+spaced c = c .before
+
+abbrev begun : tie.After-peek → tie.Start
+begun c = spaced c .before .before
+
 returns : tie.Need-returns
 unfolding nextWord
 returns c =
-    let q = c .before .before .before .spaces-end in
+    let q = spaced (c .before .before) .spaces-end in
     let b = c .before .before .peek in
     rw (← q .ensures, ← b .ensures, eq-eqb _ _ (c .before .if1 .taken), eq-eqb _ 10 (c .if2 .taken))
 
 returns-2 : tie.Need-returns-2
 unfolding nextWord
 returns-2 c =
-    let q = c .before .before .before .spaces-end in
+    let q = spaced (c .before .before) .spaces-end in
     let b = c .before .before .peek in
     rw (← q .ensures, ← b .ensures, eq-eqb _ _ (c .before .if1 .taken), ne-eqb _ 10 (c .if2 .left))
 
 returns-3 : tie.Need-returns-3
 unfolding nextWord
 returns-3 c =
-    let q = c .before .before .before .spaces-end in
+    let q = spaced (c .before .before) .spaces-end in
     let b = c .before .before .peek in
     rw (← q .ensures, ← b .ensures, ne-eqb _ _ (c .before .if1 .left))
     (⊎-elim (λ w. rw (eq-eqb (b .result) 10 (w .taken))) (λ w. rw (ne-eqb (b .result) 10 (w .0 .left), w .1 .taken)) (c .if3 .came))
@@ -42,14 +49,16 @@ returns-3 c =
 -- the spaces end past p, at a place that fits
 add-if5 : tie.Need-add-if5
 add-if5 c =
-    let a = c .before .before .before .before .before .before .args in
-    omega (arith, spacesEnd-ge (a .s .now) (a .p), c .before .before .before .before .spaces-end .ok)
+    let seen = c .before .before .before in
+    let a = begun seen .args in
+    omega (arith, spacesEnd-ge (a .s .now) (a .p), spaced seen .spaces-end .ok)
 
 returns-4 : tie.Need-returns-4
 unfolding nextWord
 returns-4 c =
-    let q = c .before .before .before .before .before .spaces-end in
-    let b = c .before .before .before .before .peek in
+    let seen = c .before .before .before .before in
+    let q = spaced seen .spaces-end in
+    let b = seen .peek in
     rw (
       ← q .ensures,
       ← b .ensures,
@@ -62,15 +71,17 @@ returns-4 c =
 -- here they end two places past p or more
 add-t9 : tie.Need-add-t9
 add-t9 c =
-    let a = c .before .before .before .before .before .before .before .args in
-    omega (arith, spacesEnd-ge (a .s .now) (a .p), c .before .before .before .before .before .spaces-end .ok)
+    let seen = c .before .before .before .before in
+    let a = begun seen .args in
+    omega (arith, spacesEnd-ge (a .s .now) (a .p), spaced seen .spaces-end .ok)
 
 returns-5 : tie.Need-returns-5
 unfolding nextWord
 returns-5 c =
-    let a = c .before .before .before .before .before .before .before .args in
-    let q = c .before .before .before .before .before .spaces-end in
-    let b = c .before .before .before .before .peek in
+    let seen = c .before .before .before .before in
+    let a = begun seen .args in
+    let q = spaced seen .spaces-end in
+    let b = seen .peek in
     let second : stepOf (nextWord (a .s .now) (a .p)) ≡ record { fault = 2; place = a .p + 1 } =
     rw (
       ← q .ensures,

@@ -4,7 +4,7 @@ use mathlib.Core.Path.{_∙_}
 use native.Mathlib.Omega.{arith}
 use borrow.Author.Needs.{needs}
 use Rattle.transition.proofs.Checks.{book-facts, state-facts}
-use Rattle.transition.proofs.Steps.{constraints-known, places-sound, masks-known, free-ends, many-ends, moved-number}
+use Rattle.transition.proofs.Steps.{constraints-known, parameters-sound, masks-known, free-ends, many-ends, moved-number}
 use Rattle.transition.proofs.judged.Statement.{statement}
 use Rattle.transition.proofs.judged.Tie as tie
 
@@ -25,7 +25,7 @@ follow-masks-requires c κs =
     let p = load .before .before .before .before .before .before .pre in
     let b = book-facts _ (p .0) in
     let s = state-facts _ _ (p .1) in
-    (s .count, places-sound _ _ b s _ _ (load .load .ensures))
+    (s .count, parameters-sound _ _ b s _ _ (load .load .ensures))
 
 leaves-free-requires : tie.Need-leaves-free-requires
 leaves-free-requires c κs =

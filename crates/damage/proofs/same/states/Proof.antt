@@ -2,7 +2,7 @@
 use Prim.Native.Nat.{_≤_, _-_}
 use mathlib.Core.Path.{_≡_}
 use lib.ListN.{length}
-use Rattle.laws.proofs.Places.{map-length}
+use Rattle.laws.proofs.Arrays.{map-length}
 use borrow.Author.Needs.{needs}
 use Rattle.damage.proofs.same.states.Statement.{statement}
 use Rattle.damage.proofs.same.states.Tie as tie

@@ -2,13 +2,13 @@
 use Prim.Native.Nat.{_≤_, _-_}
 use mathlib.Core.Path.{_≡_}
 use lib.ListN.{length}
-use Rattle.laws.proofs.Places.{map-length}
+use Rattle.laws.proofs.Arrays.{map-length}
 use borrow.Author.Needs.{needs}
 use Rattle.damage.proofs.same.symbols.Statement.{statement}
 use Rattle.damage.proofs.same.symbols.Tie as tie
 
 abbrev Inv-loop : tie.InvT-loop
-Inv-loop a b i₀ i = (i ≤ 4) × (length (a .places) ≡ 4) × (length (b .places) ≡ 4)
+Inv-loop a b i₀ i = (i ≤ 4) × (length (a .parameters) ≡ 4) × (length (b .parameters) ≡ 4)
 
 abbrev μ-loop : tie.MeasureT-loop
 μ-loop a b i₀ i = 4 - i

@@ -10,7 +10,7 @@ use Rattle.laws.specs.Order.{lex}
 use Rattle.meaning.specs.Labels.{exclusions}
 use Rattle.slot.specs.Slots.{viewSlot, rank}
 use Rattle.slot.proofs.Slots.{view-taken}
-use Rattle.slot.proofs.Places.{rest, lex-less, lex-more, lex-later, lex-shorter, lex-longer, lex-over}
+use Rattle.slot.proofs.Insertions.{rest, lex-less, lex-more, lex-later, lex-shorter, lex-longer, lex-over}
 use Rattle.slot.proofs.Slot.compare_exclusions.Statement.{statement}
 use Rattle.slot.proofs.Slot.compare_exclusions.Tie as tie
 

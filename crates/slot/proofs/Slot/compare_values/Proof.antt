@@ -5,7 +5,7 @@ use borrow.Author.Needs.{needs}
 use Rattle.laws.proofs.Order.{lt-compare, gt-compare}
 use Rattle.meaning.specs.Labels.{valueKey}
 use Rattle.slot.specs.Slots.{viewSlot, rank}
-use Rattle.slot.proofs.Places.{eq-compare}
+use Rattle.slot.proofs.Insertions.{eq-compare}
 use Rattle.slot.proofs.Slot.compare_values.Statement.{statement}
 use Rattle.slot.proofs.Slot.compare_values.Tie as tie
 

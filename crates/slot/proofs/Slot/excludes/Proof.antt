@@ -8,7 +8,7 @@ use lib.ListN.{length, take}
 use Rattle.laws.specs.Lists.{any}
 use Rattle.laws.proofs.Lists.{taken-none}
 use Rattle.slot.proofs.Slots.{view-taken}
-use Rattle.slot.proofs.Places.{rest, any-here, any-later}
+use Rattle.slot.proofs.Insertions.{rest, any-here, any-later}
 use Rattle.slot.proofs.Slot.excludes.Statement.{statement}
 use Rattle.slot.proofs.Slot.excludes.Tie as tie
 

@@ -7,7 +7,7 @@ use native.Mathlib.Omega.{arith}
 use borrow.Author.Needs.{needs}
 use borrow.Author.Tests.{le-leb, lt-leb}
 use lib.ListN.{length, getD}
-use Rattle.slot.proofs.Excluding.{excluding-bound, kept-slot, found-slot, place-few, gap-room, gap-view}
+use Rattle.slot.proofs.Excluding.{excluding-bound, kept-slot, found-slot, insertion-few, gap-room, gap-view}
 use Rattle.slot.proofs.Slot.excluding.Statement.{statement}
 use Rattle.slot.proofs.Slot.excluding.Tie as tie
 
@@ -20,8 +20,8 @@ returns c =
 size-requires : tie.Need-size-requires
 size-requires c κs = search needs
 
-place-requires : tie.Need-place-requires
-place-requires c κs = search needs
+insertion-point-requires : tie.Need-insertion-point-requires
+insertion-point-requires c κs = search needs
 
 mul-if3 : tie.Need-mul-if3
 mul-if3 c = search needs
@@ -33,14 +33,14 @@ returns-2 : tie.Need-returns-2
 returns-2 c =
     let a = c .before .before .before .before .before .before .args in
     let z = c .before .before .before .before .size in
-    let k = c .before .before .before .place in
+    let k = c .before .before .before .insertion-point in
     let f = c .before .before .before .before .before .if1 .left in
     let e = found-slot (a .self) (a .x) (z .result) (k .result) f (z .ensures .0) (k .ensures .0) (c .before .if2 .taken) (c .if3 .taken) in
     let h = kept-slot (a .self) (a .x) (search needs) e in
     (h .0, h .1, λ _. refl)
 
 -- x is not among the exclusions
-absent : (c : tie.Joined2) → let a = c .before .before .before .before .before .args in let k = c .before .before .place .result in
+absent : (c : tie.Joined2) → let a = c .before .before .before .before .before .args in let k = c .before .before .insertion-point .result in
     k < c .before .before .before .size .result → getD (a .self .excluded) k 0 ≡ a .x → ⊥
 absent c l = ⊎-elim (λ w. w .1 .left) (λ w. absurd (omega arith)) (c .if2 .came)
 
@@ -48,7 +48,7 @@ returns-3 : tie.Need-returns-3
 returns-3 c =
     let a = c .before .before .before .before .before .before .args in
     let z = c .before .before .before .before .size in
-    let k = c .before .before .before .place in
+    let k = c .before .before .before .insertion-point in
     let f = c .before .before .before .before .before .if1 .left in
     let n = absent (c .before) in
     let l : length (a .self .excluded) ≡ 6 = search needs in
@@ -59,9 +59,9 @@ opened-requires : tie.Need-opened-requires
 opened-requires c κs =
     let a = c .before .before .before .before .before .before .args in
     let z = c .before .before .before .before .size in
-    let k = c .before .before .before .place in
+    let k = c .before .before .before .insertion-point in
     let f = c .before .before .before .before .before .if1 .left in
-    let e = place-few (a .self) (a .x) (z .result) (k .result) f (z .ensures .0) (k .ensures .0) in
+    let e = insertion-few (a .self) (a .x) (z .result) (k .result) f (z .ensures .0) (k .ensures .0) in
     omega arith
 
 add-t14 : tie.Need-add-t14
@@ -71,7 +71,7 @@ returns-4 : tie.Need-returns-4
 returns-4 c =
     let a = c .before .before .before .before .before .before .before .args in
     let z = c .before .before .before .before .before .size in
-    let k = c .before .before .before .before .place in
+    let k = c .before .before .before .before .insertion-point in
     let f = c .before .before .before .before .before .before .if1 .left in
     let n = absent (c .before .before) in
     let l : length (a .self .excluded) ≡ 6 = search needs in
@@ -84,4 +84,4 @@ returns-4 c =
 pub excluding-spec : {M : Type 1} → statement M
 excluding-spec =
     tie.close
-    (tie.spec returns size-requires place-requires mul-if3 array-read-if3 returns-2 returns-3 opened-requires add-t14 returns-4)
+    (tie.spec returns size-requires insertion-point-requires mul-if3 array-read-if3 returns-2 returns-3 opened-requires add-t14 returns-4)

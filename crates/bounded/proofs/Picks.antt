@@ -15,8 +15,8 @@ use Rattle.laws.proofs.Lists.{eqb-swap}
 use Rattle.meaning.specs.Events.{Event, constraintOf}
 use Rattle.meaning.specs.Book.{Book, beginsAt, followers, symbolOf}
 use Rattle.meaning.specs.Labels.{Disjunct, Held, heldAt, labelOf, sources, stepSet}
-use Rattle.work.specs.Wide.{wideBook}
-use Rattle.work.specs.Bounded.{pick, heldOf, withStart, metList, metSet}
+use Rattle.bounded.specs.Wide.{wideBook}
+use Rattle.bounded.specs.Bounded.{pick, heldOf, withStart, metList, metSet}
 
 module _ {A B : Type 0} where
   -- a picked element stands in the list

@@ -7,9 +7,9 @@ use lib.ListN.{length, take}
 use Rattle.laws.proofs.Lists.{taken-none}
 use Rattle.slot.specs.Slots.{smaller}
 use Rattle.slot.proofs.Slots.{view-taken}
-use Rattle.slot.proofs.Places.{rest, smaller-more, smaller-none}
-use Rattle.slot.proofs.Slot.place.Statement.{statement}
-use Rattle.slot.proofs.Slot.place.Tie as tie
+use Rattle.slot.proofs.Insertions.{rest, smaller-more, smaller-none}
+use Rattle.slot.proofs.Slot.insertion_point.Statement.{statement}
+use Rattle.slot.proofs.Slot.insertion_point.Tie as tie
 
 abbrev Inv-loop : tie.InvT-loop
 Inv-loop x n xs i₀ i = (i ≤ n) × (smaller x (take n xs) ≡ i + smaller x (rest xs n i))
@@ -58,8 +58,8 @@ returns-2 c =
     let e = ap (smaller (a .x)) (taken-none (a .self .excluded) (z .result) (c .before .loop .i) (c .loop-test .left)) in
     omega (arith, ap (smaller (a .x)) (view-taken (a .self) (z .result) (z .ensures .0)))
 
-pub place-spec : {M : Type 1} → statement M
-place-spec =
+pub insertion-point-spec : {M : Type 1} → statement M
+insertion-point-spec =
     tie.close
     (tie.spec
     Inv-loop

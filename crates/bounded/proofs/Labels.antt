@@ -21,9 +21,9 @@ use Rattle.meaning.specs.Labels.{Disjunct, Held, heldAt, labelOf, compareDisjun
 use Rattle.meaning.specs.Room.{heldLimit, skipRoom, room}
 use Rattle.meaning.specs.Sound.{soundPiece, soundHeld}
 use Rattle.meaning.proofs.Orders.{held-order}
-use Rattle.work.specs.Wide.{wideBook}
-use Rattle.work.specs.Bounded.{heldOf, labelled, appended}
-use Rattle.work.proofs.Picks.{label-pick, step-met}
+use Rattle.bounded.specs.Wide.{wideBook}
+use Rattle.bounded.specs.Bounded.{heldOf, labelled, appended}
+use Rattle.bounded.proofs.Picks.{label-pick, step-met}
 
 -- a label over the limit is over it behind other labels too
 appended-within : (q : ℕ) (h : List Held) (l : List Disjunct) → appended q h (within heldLimit l) ≡ within heldLimit (h ++ map (heldAt q) l)

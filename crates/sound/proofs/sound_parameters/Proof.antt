@@ -6,22 +6,22 @@ use native.Mathlib.Omega.{arith}
 use borrow.Author.Needs.{needs}
 use lib.ListN.{length}
 use lib.Dec.{leb}
-use Rattle.meaning.specs.Book.{soundPlace}
-use Rattle.table.specs.declared.Place.{Place}
-use Rattle.table.specs.Tables.{viewPlace}
+use Rattle.meaning.specs.Book.{soundParameter}
+use Rattle.table.specs.declared.Parameter.{Parameter}
+use Rattle.table.specs.Tables.{viewParameter}
 use Rattle.sound.proofs.Loops.{Told, told-more, told-stop, told-end}
-use Rattle.sound.proofs.sound_places.Statement.{statement}
-use Rattle.sound.proofs.sound_places.Tie as tie
+use Rattle.sound.proofs.sound_parameters.Statement.{statement}
+use Rattle.sound.proofs.sound_parameters.Tie as tie
 
 -- one place
-abbrev one : ℕ → Place → Bool
-one variables p = leb (p .tag) 1 && soundPlace variables (viewPlace p)
+abbrev one : ℕ → Parameter → Bool
+one variables p = leb (p .tag) 1 && soundParameter variables (viewParameter p)
 
 abbrev Inv-loop : tie.InvT-loop
-Inv-loop n variables places i₀ i = (i ≤ n) × (length places ≡ 4) × Told (one variables) places n i
+Inv-loop n variables parameters i₀ i = (i ≤ n) × (length parameters ≡ 4) × Told (one variables) parameters n i
 
 abbrev μ-loop : tie.MeasureT-loop
-μ-loop n variables places i₀ i = n - i
+μ-loop n variables parameters i₀ i = n - i
 
 loop-holds : tie.Need-loop-holds Inv-loop μ-loop
 loop-holds c = (omega arith, search needs, refl)
@@ -32,8 +32,8 @@ mul-p c = search needs
 array-copy-out-p : tie.Need-array-copy-out-p Inv-loop μ-loop
 array-copy-out-p c = search needs
 
-sound-place-requires : tie.Need-sound-place-requires Inv-loop μ-loop
-sound-place-requires c κs = search needs
+sound-parameter-requires : tie.Need-sound-parameter-requires Inv-loop μ-loop
+sound-parameter-requires c κs = search needs
 
 add-i : tie.Need-add-i Inv-loop μ-loop
 add-i c = search needs
@@ -47,7 +47,7 @@ loop-again c =
     let a = c .before .before .before .before .before .args in
     let t =
     told-more (one (a .variables)) (a .t1) (a .n) (l .i) (record { tag = 0; number = 0 })
-    (c .before .before .before .loop-test .taken) (omega arith) (l .inv .2) (c .before .sound-place .ensures) (c .if1 .taken) in
+    (c .before .before .before .loop-test .taken) (omega arith) (l .inv .2) (c .before .sound-parameter .ensures) (c .if1 .taken) in
     (omega arith, l .inv .1, t)
 
 returns : tie.Need-returns Inv-loop μ-loop
@@ -55,7 +55,7 @@ returns c =
     let l = c .before .before .before .before .loop in
     let a = c .before .before .before .before .before .args in
     told-stop (one (a .variables)) (a .t1) (a .n) (l .i) (record { tag = 0; number = 0 })
-    (c .before .before .before .loop-test .taken) (omega arith) (l .inv .2) (c .before .sound-place .ensures) (c .if1 .left)
+    (c .before .before .before .loop-test .taken) (omega arith) (l .inv .2) (c .before .sound-parameter .ensures) (c .if1 .left)
 
 returns-2 : tie.Need-returns-2 Inv-loop μ-loop
 returns-2 c =
@@ -63,8 +63,8 @@ returns-2 c =
     let a = c .before .before .args in
     told-end (one (a .variables)) (a .t1) (a .n) (l .i) (c .loop-test .left) (l .inv .2)
 
-pub sound-places-spec : {M : Type 1} → statement M
-sound-places-spec =
+pub sound-parameters-spec : {M : Type 1} → statement M
+sound-parameters-spec =
     tie.close
     (tie.spec
     Inv-loop
@@ -72,7 +72,7 @@ sound-places-spec =
     loop-holds
     mul-p
     array-copy-out-p
-    sound-place-requires
+    sound-parameter-requires
     add-i
     loop-less
     loop-again

@@ -26,10 +26,10 @@ use Rattle.meaning.proofs.Orders.{disjunct-order, held-order, valuation-order}
 use Rattle.meaning.proofs.Step.{Long, skipOne-long, skipBy-long, numbered-inRange, symbols-inRange}
 use Rattle.meaning.proofs.Step.{label-long, sources-long, stepSet-long, skipSet-long}
 use Rattle.meaning.proofs.Fits.{inRange, met-length}
-use Rattle.work.specs.Wide.{wide, wideHeld, wideValuation, wideBook}
-use Rattle.work.specs.Bounded.{metList, freeIn, freeRows}
-use Rattle.work.proofs.WideDisjuncts.{wide-length, wide-take, wide-compare, wideValuation-compare, wide-few, wide-entries, wide-free-disjunct}
-use Rattle.work.proofs.WideDisjuncts.{wide-valuation, wide-meets, wide-met, wide-skip}
+use Rattle.bounded.specs.Wide.{wide, wideHeld, wideValuation, wideBook}
+use Rattle.bounded.specs.Bounded.{metList, freeIn, freeRows}
+use Rattle.bounded.proofs.WideDisjuncts.{wide-length, wide-take, wide-compare, wideValuation-compare, wide-few, wide-entries, wide-free-disjunct}
+use Rattle.bounded.proofs.WideDisjuncts.{wide-valuation, wide-meets, wide-met, wide-skip}
 
 setRoom-wide : (l : List Disjunct) → setRoom (map wide l) ≡ setRoom l
 unfolding setRoom

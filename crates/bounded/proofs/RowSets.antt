@@ -21,9 +21,9 @@ use Rattle.meaning.specs.Book.{Book, positions, beginsAt, endsAt, followers, sy
 use Rattle.meaning.specs.Labels.{Disjunct, isFree, compareDisjuncts, meets, met}
 use Rattle.meaning.specs.Rows.{compareValuations, valuationOf, rows}
 use Rattle.meaning.proofs.Orders.{disjunct-order, valuation-order}
-use Rattle.work.specs.Wide.{wideBook}
-use Rattle.work.specs.Bounded.{pick, heldOf, withStart, metList, metSet, rowLimit, rowsWith, freeIn, freeRows}
-use Rattle.work.proofs.Picks.{sources-pick, step-met}
+use Rattle.bounded.specs.Wide.{wideBook}
+use Rattle.bounded.specs.Bounded.{pick, heldOf, withStart, metList, metSet, rowLimit, rowsWith, freeIn, freeRows}
+use Rattle.bounded.proofs.Picks.{sources-pick, step-met}
 
 module _ {A : Type 0} (cmp : A → A → Ordering) (cap : ℕ) where
   grow-full : (xs : List A) → growAll cmp cap xs full ≡ full
@@ -214,9 +214,9 @@ module _ (b : Book) (ps : List ℕ) (l : List Disjunct) (e : Event) where
   rows-wide = ap (setOf compareValuations) (gather-agree _ _ (keep (endsAt b) (positions b)) (λ q m. ap (map valuationOf) (step-met b ps l e q)))
 
   -- from the first position on they are the rows of the event
-  pub from-all : rowsFrom 0 (grown []) ≡ within rowLimit (rows (wideBook b) (heldOf ps l) e)
+  pub collected-rows : rowsFrom 0 (grown []) ≡ within rowLimit (rows (wideBook b) (heldOf ps l) e)
   unfolding rowsFrom metSet found
-  from-all =
+  collected-rows =
       let qs = keep (endsAt b) (positions b) in
       through-grow (positions b) (grown []) ∙ growAll-within valuation-order rowLimit (gather found qs) [] (omega arith)
       ∙ ap (within rowLimit) (same-rows (λ q. metList (asked q) (drawn q)) qs ∙ sym rows-wide)

@@ -17,7 +17,7 @@ use Rattle.meaning.specs.Events.{Constraint, never}
 use Rattle.meaning.specs.Labels.{Disjunct, compareDisjuncts, skipOne, skipBy}
 use Rattle.meaning.specs.Room.{heldLimit, fewExclusions, setRoom}
 use Rattle.meaning.proofs.Orders.{disjunct-order}
-use Rattle.work.specs.Bounded.{growFew, skipped, skippedThrough}
+use Rattle.bounded.specs.Bounded.{growFew, skipped, skippedThrough}
 
 -- once full, full for good
 pub few-full : (xs : List Disjunct) → growFew xs full ≡ full

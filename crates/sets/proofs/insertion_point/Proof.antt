@@ -1,4 +1,4 @@
--- `rows::place_of` meets its contract. The loop's invariant: x is before each of the first n from i on.
+-- `sets::place_of` meets its contract. The loop's invariant: d is before each of the first n from i on.
 use mathlib.Core.Path.{_≡_, sym, ap, _∙_}
 use mathlib.Core.Bool.{true≢false, false≢true}
 use mathlib.Core.List.{[]}
@@ -7,52 +7,52 @@ use native.Mathlib.Omega.{arith}
 use borrow.Author.Needs.{needs}
 use lib.ListN.{getD}
 use Rattle.laws.proofs.Turns.{Passed, Compared, passed-none, passed-more, passed-found, passed-behind, passed-all}
-use Rattle.meaning.specs.Rows.{compareValuations}
-use Rattle.meaning.proofs.Orders.{valuation-order}
+use Rattle.meaning.specs.Labels.{compareDisjuncts}
+use Rattle.meaning.proofs.Orders.{disjunct-order}
 use Rattle.slot.specs.Slots.{rank}
 use Rattle.slot.proofs.Slots.{rank-before, rank-equal}
-use Rattle.rows.specs.Valuations.{valuationsIn}
-use Rattle.rows.proofs.Valuations.{in-length}
-use Rattle.rows.proofs.place_of.Statement.{statement}
-use Rattle.rows.proofs.place_of.Tie as tie
+use Rattle.disjunct.specs.Disjuncts.{viewDisjunct}
+use Rattle.sets.specs.Sets.{disjunctsIn}
+use Rattle.sets.proofs.Sets.{in-length}
+use Rattle.sets.proofs.insertion_point.Statement.{statement}
+use Rattle.sets.proofs.insertion_point.Tie as tie
 
 abbrev Inv-loop : tie.InvT-loop
-Inv-loop words n x i₀ i = Passed compareValuations n (valuationsIn words) x i
+Inv-loop words n d i₀ i = Passed compareDisjuncts n (disjunctsIn words) (viewDisjunct d) i
 
 abbrev μ-loop : tie.MeasureT-loop
-μ-loop words n x i₀ i = i
+μ-loop words n d i₀ i = i
 
 loop-holds : tie.Need-loop-holds Inv-loop μ-loop
 loop-holds c = passed-none (omega (arith, in-length (c .args .words .now)))
 
 sub-get : tie.Need-sub-get Inv-loop μ-loop
-sub-get c = omega arith
+sub-get c = search needs
 
 get-requires : tie.Need-get-requires Inv-loop μ-loop
-get-requires c κs = omega arith
+get-requires c κs = search needs
 
-compare-requires : tie.Need-compare-requires Inv-loop μ-loop
-compare-requires c κs = search needs
+order-requires : tie.Need-order-requires Inv-loop μ-loop
+order-requires c κs = search needs
 
--- what a turn knows of x and the valuation before i: where they stand, and their comparison by its number
-compared : (c : tie.After-compare Inv-loop μ-loop) → let s = c .before .before .before in let a = s .before .args in
-    Compared compareValuations (a .n) (valuationsIn (a .words .now)) (a .x) (s .loop .i) (s .loop .i - 1)
+-- what a turn knows of d and the element before i: where they stand, and their comparison by its number
+compared : (c : tie.After-order Inv-loop μ-loop) → let s = c .before .before .before in let a = s .before .args in
+    Compared compareDisjuncts (a .n) (disjunctsIn (a .words .now)) (viewDisjunct (a .d)) (s .loop .i) (s .loop .i - 1)
 compared c =
     let s = c .before .before .before in
     record {
-      order = valuation-order;
+      order = disjunct-order;
       room = omega (arith, in-length (s .before .args .words .now));
       rises = s .before .pre .1;
       next = omega arith;
       passed = s .loop .inv;
     }
 
-answer : (c : tie.After-compare Inv-loop μ-loop) → let s = c .before .before .before in let a = s .before .args in
-    c .compare .result ≡ rank (compareValuations (a .x) (getD (valuationsIn (a .words .now)) (s .loop .i - 1) []))
+answer : (c : tie.After-order Inv-loop μ-loop) → let s = c .before .before .before in let a = s .before .args in
+    c .order .result ≡ rank (compareDisjuncts (viewDisjunct (a .d)) (getD (disjunctsIn (a .words .now)) (s .loop .i - 1) []))
 answer c =
     let s = c .before .before .before in
-    let given : c .compare .result ≡ rank (compareValuations (s .before .args .x) (c .before .get .result)) = c .compare .ensures in
-    given ∙ ap (λ y. rank (compareValuations (s .before .args .x) y)) (c .before .get .ensures)
+    c .order .ensures ∙ ap (λ y. rank (compareDisjuncts (viewDisjunct (s .before .args .d)) y)) (c .before .get .ensures)
 
 returns : tie.Need-returns Inv-loop μ-loop
 returns c =
@@ -61,7 +61,7 @@ returns c =
     (λ f. absurd (false≢true f), λ f. (k .before .before .before .loop .inv .upto, passed-behind (compared k) [] after))
 
 sub-t9 : tie.Need-sub-t9 Inv-loop μ-loop
-sub-t9 c = omega arith
+sub-t9 c = search needs
 
 returns-2 : tie.Need-returns-2 Inv-loop μ-loop
 returns-2 c =
@@ -69,10 +69,10 @@ returns-2 c =
     (λ f. passed-found (compared k) [] (rank-equal _ Ordering·eq (sym (answer k) ∙ c .if2 .taken)), λ f. absurd (true≢false f))
 
 sub-i : tie.Need-sub-i Inv-loop μ-loop
-sub-i c = omega arith
+sub-i c = search needs
 
 loop-less : tie.Need-loop-less Inv-loop μ-loop
-loop-less c = omega arith
+loop-less c = search needs
 
 loop-again : tie.Need-loop-again Inv-loop μ-loop
 loop-again c =
@@ -82,8 +82,8 @@ loop-again c =
 returns-3 : tie.Need-returns-3 Inv-loop μ-loop
 returns-3 c = (λ f. absurd (false≢true f), λ f. (omega arith, passed-all (c .before .loop .inv) (c .loop-test .left)))
 
-pub place-of-spec : {M : Type 1} → statement M
-place-of-spec =
+pub insertion-point-spec : {M : Type 1} → statement M
+insertion-point-spec =
     tie.close
     (tie.spec
     Inv-loop
@@ -91,7 +91,7 @@ place-of-spec =
     loop-holds
     sub-get
     get-requires
-    compare-requires
+    order-requires
     returns
     sub-t9
     returns-2

@@ -73,12 +73,12 @@ module _ {A : Type 0} (cmp : A → A → Ordering) where
   insert-behind x (z ∷ a) b h = rw (h z (List·Memᴰ·head refl)) (ap (λ r. z ∷ r) (insert-behind x a b (λ w m. h w (List·Memᴰ·tail m))))
 
   -- The place of x, looked for from the end: x is before each element from i on. First none is passed, then one more.
-  pub place-none : (x : A) (l : List A) (i : ℕ) → length l ≡ i → insert cmp x l ≡ insert cmp x (take i l) ++ drop i l
-  place-none x l i h = rw (← h, take-length, drop-length, append-nil)
+  pub insertion-none : (x : A) (l : List A) (i : ℕ) → length l ≡ i → insert cmp x l ≡ insert cmp x (take i l) ++ drop i l
+  insertion-none x l i h = rw (← h, take-length, drop-length, append-nil)
 
-  pub place-passed : (x : A) (l : List A) (i : ℕ) (d : A) → i < length l → cmp x (getD l i d) ≡ Ordering·lt
+  pub insertion-passed : (x : A) (l : List A) (i : ℕ) (d : A) → i < length l → cmp x (getD l i d) ≡ Ordering·lt
       → insert cmp x l ≡ insert cmp x (take (suc i) l) ++ drop (suc i) l → insert cmp x l ≡ insert cmp x (take i l) ++ drop i l
-  place-passed x l i d h b e =
+  insertion-passed x l i d h b e =
       e ∙ ap (λ r. insert cmp x r ++ drop (suc i) l) (take-suc l i d h)
       ∙ ap (λ r. r ++ drop (suc i) l) (insert-before-last x (getD l i d) (take i l) b)
       ∙ append-snoc (insert cmp x (take i l)) (getD l i d) (drop (suc i) l)
@@ -105,22 +105,22 @@ module _ {A : Type 0} {cmp : A → A → Ordering} (o : IsOrder cmp) where
       (λ g. o .turned z x ∙ ap flip (ap (cmp z) (o .equal x y g) ∙ zy)) b
 
   -- the element at i, the last that is not after x, is x: nothing is put; or it is before x: x is put behind it
-  place-last : (x : A) (l : List A) (i : ℕ) (d : A) → ascending cmp l ≡ true → i < length l
+  insertion-last : (x : A) (l : List A) (i : ℕ) (d : A) → ascending cmp l ≡ true → i < length l
       → (cmp x (getD l i d) ≡ Ordering·gt) ⊎ (cmp x (getD l i d) ≡ Ordering·eq) → insert cmp x l ≡ insert cmp x (take (suc i) l) ++ drop (suc i) l
       → insert cmp x l ≡ (take i l ++ insert cmp x (getD l i d ∷ [])) ++ drop (suc i) l
-  place-last x l i d ha h b e =
+  insertion-last x l i d ha h b e =
       e ∙ ap (λ r. insert cmp x r ++ drop (suc i) l) (take-suc l i d h)
       ∙ ap (λ r. r ++ drop (suc i) l) (insert-behind cmp x (take i l) (getD l i d ∷ []) (not-before x l i d ha h b))
 
-  pub place-found : (x : A) (l : List A) (i : ℕ) (d : A) → ascending cmp l ≡ true → i < length l → cmp x (getD l i d) ≡ Ordering·eq
+  pub insertion-found : (x : A) (l : List A) (i : ℕ) (d : A) → ascending cmp l ≡ true → i < length l → cmp x (getD l i d) ≡ Ordering·eq
       → insert cmp x l ≡ insert cmp x (take (suc i) l) ++ drop (suc i) l → insert cmp x l ≡ l
-  place-found x l i d ha h b e =
-      place-last x l i d ha h (inr b) e ∙ rw (b, ← take-suc l i d h) (take-append-drop (suc i) l)
+  insertion-found x l i d ha h b e =
+      insertion-last x l i d ha h (inr b) e ∙ rw (b, ← take-suc l i d h) (take-append-drop (suc i) l)
 
-  pub place-behind : (x : A) (l : List A) (i : ℕ) (d : A) → ascending cmp l ≡ true → i < length l → cmp x (getD l i d) ≡ Ordering·gt
+  pub insertion-behind : (x : A) (l : List A) (i : ℕ) (d : A) → ascending cmp l ≡ true → i < length l → cmp x (getD l i d) ≡ Ordering·gt
       → insert cmp x l ≡ insert cmp x (take (suc i) l) ++ drop (suc i) l → insert cmp x l ≡ take (suc i) l ++ x ∷ drop (suc i) l
-  place-behind x l i d ha h b e =
-      place-last x l i d ha h (inl b) e ∙ rw (b, take-suc l i d h) (simp append-assoc)
+  insertion-behind x l i d ha h b e =
+      insertion-last x l i d ha h (inl b) e ∙ rw (b, take-suc l i d h) (simp append-assoc)
 
   -- one more of xs inserted
   pub insertAll-more : (xs : List A) (i : ℕ) (d : A) (l : List A) → i < length xs

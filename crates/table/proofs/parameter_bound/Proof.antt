@@ -8,21 +8,21 @@ use borrow.Author.Tests.{eq-eqb, ne-eqb, ltb-true}
 use Rattle.laws.specs.Bits.{single}
 use Rattle.laws.proofs.Bits.{single-below, join-none}
 use Rattle.meaning.specs.Events as Events
-use Rattle.meaning.specs.Book.{soundPlace, boundIn}
-use Rattle.table.specs.declared.Place.{Place}
-use Rattle.table.specs.Tables.{viewPlace}
-use Rattle.table.proofs.place_bound.Statement.{statement}
-use Rattle.table.proofs.place_bound.Tie as tie
+use Rattle.meaning.specs.Book.{soundParameter, boundIn}
+use Rattle.table.specs.declared.Parameter.{Parameter}
+use Rattle.table.specs.Tables.{viewParameter}
+use Rattle.table.proofs.parameter_bound.Statement.{statement}
+use Rattle.table.proofs.parameter_bound.Tie as tie
 
 -- what the test of the tag says
-named : (p : Place) → p .tag ≡ 1 → viewPlace p ≡ Events.names (p .number)
+named : (p : Parameter) → p .tag ≡ 1 → viewParameter p ≡ Events.names (p .number)
 named p h = ap (λ b. cond b (Events.names (p .number)) Events.ignored) (eq-eqb (p .tag) 1 h)
 
-unnamed : (p : Place) → (p .tag ≡ 1 → ⊥) → viewPlace p ≡ Events.ignored
+unnamed : (p : Parameter) → (p .tag ≡ 1 → ⊥) → viewParameter p ≡ Events.ignored
 unnamed p h = ap (λ b. cond b (Events.names (p .number)) Events.ignored) (ne-eqb (p .tag) 1 h)
 
-small : (p : Place) → soundPlace 32 (viewPlace p) ≡ true → p .tag ≡ 1 → p .number < 32
-small p s h = ltb-true (p .number) 32 (sym (ap (soundPlace 32) (named p h)) ∙ s)
+small : (p : Parameter) → soundParameter 32 (viewParameter p) ≡ true → p .tag ≡ 1 → p .number < 32
+small p s h = ltb-true (p .number) 32 (sym (ap (soundParameter 32) (named p h)) ∙ s)
 
 shl-result : tie.Need-shl-result
 shl-result c = small (c .before .before .args .p) (c .before .before .pre) (c .if1 .taken)
@@ -37,5 +37,5 @@ returns c =
 returns-2 : tie.Need-returns-2
 returns-2 c = sym (ap (λ x. boundIn (x ∷ [])) (unnamed (c .before .before .args .p) (c .if1 .left)))
 
-pub place-bound-spec : {M : Type 1} → statement M
-place-bound-spec = tie.close (tie.spec shl-result returns returns-2)
+pub parameter-bound-spec : {M : Type 1} → statement M
+parameter-bound-spec = tie.close (tie.spec shl-result returns returns-2)
