@@ -8,7 +8,7 @@ use Rattle.laws.specs.Sets.{Grown, full, grown}
 use Rattle.pattern.specs.Positions.{occurrenceLimit}
 use Rattle.meaning.specs.Labels.{Held}
 use Rattle.meaning.specs.Room.{heldLimit}
-use Rattle.form.specs.Limits.{symbolLimit}
+use Rattle.meaning.specs.Limits.{symbolLimit}
 use Rattle.bounded.specs.Bounded.{heldOf}
 use Rattle.sets.specs.Sets.{disjunctsIn}
 use Rattle.book.specs.declared.Book.{Book}

@@ -19,7 +19,7 @@ ghost use Rattle.meaning.specs.Book.{soundBook, followers};
 ghost use Rattle.meaning.specs.Labels.{compareDisjuncts, newHeld};
 ghost use Rattle.meaning.specs.Room.{heldLimit, room};
 ghost use Rattle.meaning.specs.Sound.{soundHeld};
-ghost use Rattle.form.specs.Limits.{symbolLimit};
+ghost use Rattle.meaning.specs.Limits.{symbolLimit};
 ghost use Rattle.bounded.specs.Wide.{wideBook};
 ghost use Rattle.bounded.specs.Bounded.{pick, labelled, appended};
 ghost use Rattle.constraint.specs.Constraints.{viewConstraint, noConstraint, Ready};
@@ -48,7 +48,8 @@ fn new_label(
     a: &mut Words,
     b: &mut Words,
 ) -> usize
-    requires { ⌜ (n ≤ heldLimit) × (count ≤ symbolLimit) × (q .number ≤ occurrenceLimit) × Ready (q .constraint) × ((i : ℕ) → i < count → Ready (getD cs i noConstraint))
+    requires { ⌜ (n ≤ heldLimit) × (count ≤ symbolLimit) × (q .number ≤ occurrenceLimit) × Ready (q .constraint)
+        × ((i : ℕ) → i < count → Ready (getD cs i noConstraint))
         × (ascending compareDisjuncts (pick (eqb (q .number)) (take n (now at)) (take n (disjunctsIn (now held)))) ≡ true) ⌝ }
     ensures { λ r. ⌜ grownIn r (now (words .exit)) ≡ labelled (viewConstraint (q .constraint)) (map viewConstraint (take count cs)) (q .begins)
         (not (eqb (q .follows) 0)) (q .number) (take n (now (at .entry))) (take n (now (masks .entry))) (take n (disjunctsIn (now (held .entry)))) ⌝ }
@@ -111,7 +112,8 @@ fn add_label(
     next_at: &mut [u32; CAPACITY],
     total: usize,
 ) -> usize
-    requires { ⌜ (n ≤ heldLimit) × (count ≤ symbolLimit) × (q .number ≤ occurrenceLimit) × Ready (q .constraint) × ((i : ℕ) → i < count → Ready (getD cs i noConstraint))
+    requires { ⌜ (n ≤ heldLimit) × (count ≤ symbolLimit) × (q .number ≤ occurrenceLimit) × Ready (q .constraint)
+        × ((i : ℕ) → i < count → Ready (getD cs i noConstraint))
         × (ascending compareDisjuncts (pick (eqb (q .number)) (take n (now at)) (take n (disjunctsIn (now held)))) ≡ true) × (total ≤ heldLimit) ⌝ }
     ensures { λ r. ⌜ heldGrown r (now («next_at» .exit)) (now (next .exit)) ≡ appended (q .number)
         (heldIn total (now («next_at» .entry)) (now (next .entry)))
@@ -137,7 +139,8 @@ pub fn advance(
     next: &mut Words,
     next_at: &mut [u32; CAPACITY],
 ) -> usize
-    requires { ⌜ (n ≤ heldLimit) × Counts book × (soundBook (viewBook book) ≡ true) × (soundHeld (wideBook (viewBook book)) (heldIn n (now at) (now held)) ≡ true)
+    requires { ⌜ (n ≤ heldLimit) × Counts book × (soundBook (viewBook book) ≡ true)
+        × (soundHeld (wideBook (viewBook book)) (heldIn n (now at) (now held)) ≡ true)
         × (take n (now masks) ≡ map (followers (viewBook book)) (take n (now at))) × ((i : ℕ) → i < book .symbols → Ready (getD cs i noConstraint)) ⌝ }
     ensures { λ r. ⌜ ((e : Event) → map viewConstraint (take (book .symbols) cs) ≡ map (λ s. constraintOf s e) (viewBook book .symbols)
         → heldGrown r (now («next_at» .exit)) (now (next .exit))

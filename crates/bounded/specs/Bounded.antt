@@ -13,7 +13,7 @@ use Rattle.meaning.specs.Book.{Book, positions, endsAt, symbolOf}
 use Rattle.meaning.specs.Labels.{Disjunct, Held, sources, heldAt, freeDisjunct, isFree, compareDisjuncts, meets, met, skipBy, skipThrough}
 use Rattle.meaning.specs.Room.{heldLimit, fewExclusions, setRoom, skipRoom}
 use Rattle.meaning.specs.Rows.{compareValuations, valuationOf}
-use Rattle.form.specs.Limits.{variableLimit, symbolLimit}
+use Rattle.meaning.specs.Limits.{variableLimit, symbolLimit}
 
 -- the elements of the second list whose partner in the first passes
 abbrev pub pick : {A B : Type 0} → (A → Bool) → List A → List B → List B

@@ -5,7 +5,7 @@ use Rattle.laws.specs.Parts.{pad}
 use Rattle.meaning.specs.Events.{Valuation}
 use Rattle.meaning.specs.Book.{Book}
 use Rattle.meaning.specs.Labels.{free, Disjunct, Held}
-use Rattle.form.specs.Limits.{variableLimit}
+use Rattle.meaning.specs.Limits.{variableLimit}
 
 -- the further variables free
 unfoldable pub wide : Disjunct → Disjunct

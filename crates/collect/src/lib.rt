@@ -21,7 +21,7 @@ ghost use Rattle.meaning.specs.Events.{Event, constraintOf};
 ghost use Rattle.meaning.specs.Book.{soundBook, followers};
 ghost use Rattle.meaning.specs.Room.{heldLimit};
 ghost use Rattle.meaning.specs.Rows.{compareValuations, rows};
-ghost use Rattle.form.specs.Limits.{variableLimit};
+ghost use Rattle.meaning.specs.Limits.{variableLimit};
 ghost use Rattle.bounded.specs.Wide.{wideBook};
 ghost use Rattle.bounded.specs.Bounded.{pick, withStart, rowLimit, rowsWith, freeIn, freeRows};
 ghost use Rattle.constraint.specs.Constraints.{viewConstraint, noConstraint, Ready};
@@ -56,7 +56,8 @@ fn rows_at(
     out: &mut rows::Words,
     m: usize,
 ) -> usize
-    requires { ⌜ (n ≤ heldLimit) × (q ≤ occurrenceLimit) × (m ≤ rowLimit) × Ready c × (ascending compareValuations (take m (valuationsIn (now out))) ≡ true) ⌝ }
+    requires { ⌜ (n ≤ heldLimit) × (q ≤ occurrenceLimit) × (m ≤ rowLimit) × Ready c
+        × (ascending compareValuations (take m (valuationsIn (now out))) ≡ true) ⌝ }
     ensures { λ r. ⌜ rowsGrown r (now (out .exit)) ≡ rowsWith (viewConstraint c)
         (withStart begins (pick (λ x. bit q x) (take n (now (masks .entry))) (take n (disjunctsIn (now (held .entry))))))
         (Grown.grown (take m (valuationsIn (now (out .entry))))) ⌝ }
@@ -94,7 +95,8 @@ fn rows_of(
     out: &mut rows::Words,
     m: usize,
 ) -> usize
-    requires { ⌜ (n ≤ heldLimit) × (q ≤ occurrenceLimit) × (m ≤ rowLimit) × Ready c × (ascending compareValuations (take m (valuationsIn (now out))) ≡ true) ⌝ }
+    requires { ⌜ (n ≤ heldLimit) × (q ≤ occurrenceLimit) × (m ≤ rowLimit) × Ready c
+        × (ascending compareValuations (take m (valuationsIn (now out))) ≡ true) ⌝ }
     ensures { λ r. ⌜ rowsGrown r (now (out .exit)) ≡ rowsWith (viewConstraint c)
         (cond (bit q ends) (withStart (bit q begins) (pick (λ x. bit q x) (take n (now (masks .entry))) (take n (disjunctsIn (now (held .entry)))))) [])
         (Grown.grown (take m (valuationsIn (now (out .entry))))) ⌝ }

@@ -7,7 +7,7 @@ use lib.Dec.{ltb}
 use lib.ListN.{take}
 use Rattle.laws.specs.Lists.{all}
 use Rattle.meaning.specs.Events as Events
-use Rattle.form.specs.Limits.{variableLimit, parameterLimit}
+use Rattle.meaning.specs.Limits.{variableLimit, parameterLimit}
 use Rattle.constraint.specs.declared.Demand.{Demand}
 use Rattle.constraint.specs.declared.Constraint.{Constraint}
 

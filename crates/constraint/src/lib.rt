@@ -12,9 +12,9 @@ ghost use lib.ListN.{take, drop, getD};
 ghost use Rattle.laws.specs.Lists.{all};
 ghost use Rattle.meaning.specs.Events as Events;
 ghost use Rattle.meaning.specs.Book.{soundParameter};
-ghost use Rattle.form.specs.Limits.{variableLimit, symbolLimit, parameterLimit};
+ghost use Rattle.meaning.specs.Limits.{variableLimit, symbolLimit, parameterLimit, argumentLimit};
 ghost use Rattle.table.specs.Tables.{viewSymbol};
-ghost use Rattle.record.specs.Records.{argumentLimit, viewEvent};
+ghost use Rattle.record.specs.Records.{viewEvent};
 ghost use Rattle.constraint.specs.Constraints.{noDemand, noConstraint, demandsIn, viewConstraint, Ready};
 
 // "variable equals argument"
@@ -132,7 +132,8 @@ pub fn constraint_of(y: Symbol, e: Event) -> Constraint
 
 // The constraints of the first n symbols of a table.
 pub fn constraints(table: [Symbol; SYMBOLS], n: usize, e: Event) -> Constraints
-    requires { ⌜ (n ≤ symbolLimit) × (e .count ≤ argumentLimit) × (all (λ y. leb (y .count) parameterLimit && all (soundParameter variableLimit) (viewSymbol y .parameters)) (take n table) ≡ true) ⌝ }
+    requires { ⌜ (n ≤ symbolLimit) × (e .count ≤ argumentLimit)
+        × (all (λ y. leb (y .count) parameterLimit && all (soundParameter variableLimit) (viewSymbol y .parameters)) (take n table) ≡ true) ⌝ }
     ensures { λ r. ⌜ (map viewConstraint (take n r) ≡ map (λ y. Events.constraintOf (viewSymbol y) (viewEvent e)) (take n table))
         × ((i : ℕ) → i < n → Ready (getD r i noConstraint)) ⌝ }
 {

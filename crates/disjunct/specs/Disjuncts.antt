@@ -2,7 +2,7 @@
 use mathlib.Core.List.{[], map}
 use Rattle.laws.specs.Parts.{pad}
 use Rattle.meaning.specs.Labels as Labels
-use Rattle.form.specs.Limits.{variableLimit}
+use Rattle.meaning.specs.Limits.{variableLimit}
 use Rattle.slot.specs.Slots.{viewSlot, slotOf}
 use Rattle.disjunct.specs.declared.Disjunct.{Disjunct}
 

@@ -13,7 +13,7 @@ ghost use Rattle.laws.specs.Order.{lex};
 ghost use Rattle.meaning.specs.Labels as Labels;
 ghost use Rattle.meaning.specs.Room.{exclusionLimit};
 ghost use Rattle.meaning.specs.Rows.{valuationOf};
-ghost use Rattle.form.specs.Limits.{variableLimit};
+ghost use Rattle.meaning.specs.Limits.{variableLimit};
 ghost use Rattle.slot.specs.Slots.{rank};
 ghost use Rattle.constraint.specs.Constraints.{viewConstraint, Ready};
 ghost use Rattle.disjunct.specs.Disjuncts.{viewDisjunct, disjunctOf};

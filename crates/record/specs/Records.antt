@@ -8,6 +8,7 @@ use lib.ListN.{length, getD, take, drop}
 use Rattle.laws.specs.Lists.{all, numbers}
 use Rattle.laws.specs.Parts.{pad}
 use Rattle.meaning.specs.Events as Events
+use Rattle.meaning.specs.Limits.{argumentLimit}
 use Rattle.meaning.specs.Meaning.{noEvent}
 use Rattle.record.specs.declared.Event.{Event}
 use Rattle.record.specs.declared.Decoded.{Decoded}
@@ -15,10 +16,6 @@ use Rattle.record.specs.declared.Decoded.{Decoded}
 -- "Event record, 20 bytes"
 abbrev pub recordSize : ℕ
 recordSize = 20
-
--- "argument count (0 to 4)", "four … arguments"
-abbrev pub argumentLimit : ℕ
-argumentLimit = 4
 
 -- four bytes from place k on, little-endian
 unfoldable pub wordAt : List ℕ → ℕ → ℕ

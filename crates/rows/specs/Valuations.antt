@@ -7,7 +7,7 @@ use lib.ListN.{getD, take}
 use Rattle.laws.specs.Lists.{numbers}
 use Rattle.laws.specs.Sets.{Grown, full, grown}
 use Rattle.meaning.specs.Events.{Valuation}
-use Rattle.form.specs.Limits.{variableLimit}
+use Rattle.meaning.specs.Limits.{variableLimit}
 use Rattle.bounded.specs.Bounded.{rowLimit}
 
 unfoldable pub valuationsIn : List ℕ → List Valuation

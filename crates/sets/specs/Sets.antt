@@ -8,7 +8,7 @@ use Rattle.laws.specs.Lists.{numbers}
 use Rattle.laws.specs.Sets.{Grown, full, grown}
 use Rattle.meaning.specs.Labels.{Entry, bound, free, Disjunct}
 use Rattle.meaning.specs.Room.{exclusionLimit, heldLimit}
-use Rattle.form.specs.Limits.{variableLimit}
+use Rattle.meaning.specs.Limits.{variableLimit}
 
 -- the words of a variable: a code, and its value or room for its exclusions; and those of a disjunct
 abbrev pub slotWords : ℕ

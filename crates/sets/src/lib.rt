@@ -13,7 +13,7 @@ ghost use Rattle.laws.specs.Order.{ascending};
 ghost use Rattle.laws.specs.Sets.{insert, insertAll, within};
 ghost use Rattle.meaning.specs.Labels.{compareDisjuncts};
 ghost use Rattle.meaning.specs.Room.{heldLimit};
-ghost use Rattle.form.specs.Limits.{variableLimit};
+ghost use Rattle.meaning.specs.Limits.{variableLimit};
 ghost use Rattle.slot.specs.Slots.{viewSlot};
 ghost use Rattle.disjunct.specs.Disjuncts.{viewDisjunct};
 ghost use Rattle.sets.specs.Sets.{slotWords, disjunctWords, entryAt, entriesIn, disjunctsIn, grownIn};
@@ -174,7 +174,8 @@ fn shift(words: &mut Words, n: usize, k: usize)
 // d among the first n, in its place: how many there are then, or NO_ROOM for one more.
 pub fn insert(words: &mut Words, n: usize, d: Disjunct) -> usize
     requires { ⌜ (n ≤ heldLimit) × (ascending compareDisjuncts (take n (disjunctsIn (now words))) ≡ true) ⌝ }
-    ensures { λ r. ⌜ grownIn r (now (words .exit)) ≡ within heldLimit (insert compareDisjuncts (viewDisjunct d) (take n (disjunctsIn (now (words .entry))))) ⌝ }
+    ensures { λ r. ⌜ grownIn r (now (words .exit)) ≡ within heldLimit
+        (insert compareDisjuncts (viewDisjunct d) (take n (disjunctsIn (now (words .entry))))) ⌝ }
 {
     let p = insertion_point(words, n, d);
     if p.found {

@@ -16,7 +16,7 @@ ghost use Rattle.laws.specs.Order.{ascending};
 ghost use Rattle.laws.specs.Sets.{Grown};
 ghost use Rattle.meaning.specs.Labels.{entryOf, isFree, exclude, compareDisjuncts, skipOne};
 ghost use Rattle.meaning.specs.Room.{heldLimit, fewExclusions};
-ghost use Rattle.form.specs.Limits.{symbolLimit};
+ghost use Rattle.meaning.specs.Limits.{symbolLimit};
 ghost use Rattle.bounded.specs.Bounded.{pick, growFew, skipped, skippedThrough};
 ghost use Rattle.constraint.specs.Constraints.{viewConstraint, demandsIn, noConstraint, Ready};
 ghost use Rattle.disjunct.specs.Disjuncts.{viewDisjunct};

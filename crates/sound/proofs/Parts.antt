@@ -193,7 +193,8 @@ module _ (b : Book) (z : BookSized b) (few : b .variables ≤ 4) (some : 1 ≤ b
         le-leb n 31 h,
         eq-eqb n n refl,
       )
-      (book-and (all symbolCounts t) (all namePlaced (take (b .variables + b .symbols) (b .names))) (all (soundSymbol (b .variables)) (map viewSymbol t)) (leb 1 n)
+      (book-and (all symbolCounts t) (all namePlaced (take (b .variables + b .symbols) (b .names)))
+      (all (soundSymbol (b .variables)) (map viewSymbol t)) (leb 1 n)
       (all (λ a. ltb a (b .symbols)) (take n (b .occurrences))) (soundMask n (b .begins)) (soundMask n (b .ends))
       (all (soundMask n) (take n (b .follows))) (not (b .empty)))
 

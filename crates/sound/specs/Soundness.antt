@@ -12,7 +12,8 @@ use Rattle.pattern.specs.Positions.{occurrenceLimit}
 use Rattle.meaning.specs.Book.{soundBook}
 use Rattle.meaning.specs.Room.{exclusionLimit, heldLimit}
 use Rattle.meaning.specs.Sound.{soundState}
-use Rattle.form.specs.Limits.{textLimit, symbolLimit, parameterLimit}
+use Rattle.meaning.specs.Limits.{symbolLimit, parameterLimit}
+use Rattle.form.specs.Limits.{textLimit}
 use Rattle.table.specs.declared.Symbol.{Symbol}
 use Rattle.table.specs.declared.Name.{Name}
 use Rattle.table.specs.Tables.{spanOf, inside}

@@ -23,12 +23,15 @@ ghost use Rattle.pattern.specs.Positions.{occurrenceLimit};
 ghost use Rattle.meaning.specs.Book.{soundParameter, soundMask};
 ghost use Rattle.meaning.specs.Labels.{heldAt, compareHeld};
 ghost use Rattle.meaning.specs.Room.{exclusionLimit, heldLimit};
-ghost use Rattle.form.specs.Limits.{variableLimit, symbolLimit, parameterLimit};
+ghost use Rattle.meaning.specs.Limits.{variableLimit, symbolLimit, parameterLimit};
 ghost use Rattle.table.specs.Tables.{namesLimit, viewParameter};
 ghost use Rattle.disjunct.specs.Disjuncts.{viewDisjunct};
 ghost use Rattle.state.specs.States.{heldFirst};
 ghost use Rattle.sound.specs.Soundness.{namePlaced, bookSound, stateSound};
 ghost use Rattle.sound.specs.Tests.{slotSound, disjunctSound, symbolSound, patternSound, poolSound};
+
+// "KIND is 1 to 255"
+const KIND_LIMIT: usize = 255;
 
 fn both(a: bool, b: bool) -> bool
     ensures { λ r. ⌜ r ≡ (a && b) ⌝ }
@@ -218,7 +221,7 @@ fn sound_symbol(y: Symbol, variables: usize) -> bool
         return false;
     }
     both(
-        within(kind, 1, 255),
+        within(kind, 1, KIND_LIMIT),
         sound_parameters(parameters, n, variables),
     )
 }

@@ -92,7 +92,8 @@ fn add_sources(
     out: &mut Words,
     count: usize,
 ) -> usize
-    requires { ⌜ (n ≤ heldLimit) × (q ≤ occurrenceLimit) × Ready c × (count ≤ heldLimit) × (ascending compareDisjuncts (take count (disjunctsIn (now out))) ≡ true) ⌝ }
+    requires { ⌜ (n ≤ heldLimit) × (q ≤ occurrenceLimit) × Ready c × (count ≤ heldLimit)
+        × (ascending compareDisjuncts (take count (disjunctsIn (now out))) ≡ true) ⌝ }
     ensures { λ r. ⌜ grownIn r (now (out .exit)) ≡ within heldLimit (insertAll compareDisjuncts (metList (viewConstraint c)
         (pick (λ m. bit q m) (take n (now (masks .entry))) (take n (disjunctsIn (now (held .entry)))))) (take count (disjunctsIn (now (out .entry))))) ⌝ }
 {

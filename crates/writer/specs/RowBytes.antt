@@ -5,7 +5,7 @@ use Prim.Native.Nat.{ℕ, _/_, _%_}
 use Rattle.laws.specs.Lists.{gather}
 use Rattle.laws.specs.Parts.{pad}
 use Rattle.meaning.specs.Events.{Valuation}
-use Rattle.form.specs.Limits.{variableLimit}
+use Rattle.meaning.specs.Limits.{variableLimit}
 
 -- "Row, 24 bytes"
 abbrev pub rowSize : ℕ

@@ -6,7 +6,7 @@ ghost use Prim.Native.Nat.{_+_, _*_, _≤_};
 ghost use lib.ListN.{length, take};
 ghost use Rattle.laws.specs.Lists.{gather};
 ghost use Rattle.laws.specs.Parts.{front, splice};
-ghost use Rattle.form.specs.Limits.{variableLimit};
+ghost use Rattle.meaning.specs.Limits.{variableLimit};
 ghost use Rattle.bounded.specs.Bounded.{rowLimit};
 ghost use Rattle.rows.specs.Valuations.{valuationsIn};
 ghost use Rattle.writer.specs.RowBytes.{rowSize, rowBytes};

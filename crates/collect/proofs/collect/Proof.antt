@@ -8,7 +8,7 @@ use Rattle.laws.specs.Sets.{within}
 use Rattle.meaning.specs.Events.{Event}
 use Rattle.meaning.specs.Rows.{rows}
 use Rattle.bounded.specs.Wide.{wideBook}
-use Rattle.bounded.specs.Bounded.{rowLimit}
+use Rattle.bounded.specs.Bounded.{rowLimit, rowsWith}
 use Rattle.constraint.specs.Constraints.{viewConstraint}
 use Rattle.book.specs.Books.{viewBook}
 use Rattle.advance.specs.Held.{heldIn}
@@ -78,7 +78,10 @@ turned c e m =
     let p = c .before .before .before .before .before .loop in
     let s = c .before .before .before .before .before .before in
     let a = s .args in
-    ap (rowsAhead (a .t1) (a .n) (a .at .now) (a .held .now) e (p .i + 1)) (c .rows-of .ensures)
+    let given : rowsGrown (c .rows-of .result) (words c)
+    ≡ rowsWith (viewConstraint (constraintAt (a .t1) (a .t2) (p .i))) (sourcesOf (a .t1) (a .n) (a .masks .now) (a .held .now) (p .i + 1)) (listed (p .m) (p .out)) =
+    c .rows-of .ensures in
+    ap (rowsAhead (a .t1) (a .n) (a .at .now) (a .held .now) e (p .i + 1)) given
     ∙ sym (rows-turn (known s) (a .held .now) e (p .i) (a .t2) m (listed (p .m) (p .out)) (c .before .before .before .before .loop-test .taken))
     ∙ p .inv .2 e m
 

@@ -51,7 +51,8 @@ answer : (c : tie.After-compare Inv-loop μ-loop) → let s = c .before .before 
     c .compare .result ≡ rank (compareValuations (a .x) (getD (valuationsIn (a .words .now)) (s .loop .i - 1) []))
 answer c =
     let s = c .before .before .before in
-    c .compare .ensures ∙ ap (λ y. rank (compareValuations (s .before .args .x) y)) (c .before .get .ensures)
+    let given : c .compare .result ≡ rank (compareValuations (s .before .args .x) (c .before .get .result)) = c .compare .ensures in
+    given ∙ ap (λ y. rank (compareValuations (s .before .args .x) y)) (c .before .get .ensures)
 
 returns : tie.Need-returns Inv-loop μ-loop
 returns c =

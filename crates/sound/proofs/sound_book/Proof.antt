@@ -1,12 +1,15 @@
 -- `sound::sound_book` meets its contract: variables and symbols in range, then the symbols, the names and the pattern.
-use mathlib.Core.Path.{sym, ap₂, _∙_}
+use mathlib.Core.Path.{_≡_, sym, ap₂, _∙_}
 use mathlib.Core.Bool.{_&&_}
-use Prim.Native.Nat.{_≤_}
+use Prim.Native.Nat.{_+_, _≤_}
 use native.Mathlib.Omega.{arith}
 use borrow.Author.Tests.{leb-true}
 use borrow.Author.Needs.{needs}
 use lib.Dec.{leb}
+use lib.ListN.{take}
+use Rattle.laws.specs.Lists.{all}
 use Rattle.laws.proofs.Lists.{and-true-split}
+use Rattle.sound.specs.Soundness.{namePlaced}
 use Rattle.sound.specs.Tests.{declaredSound}
 use Rattle.sound.proofs.Sizes.{book-sized}
 use Rattle.sound.proofs.Parts.{book-variables, book-none, book-parts}
@@ -50,10 +53,11 @@ returns-2 c =
     let m = c .before .before .before in
     let t = m .before .before .before in
     let e = t .before .before .before .before .before .before in
+    let b = e .args .b in
+    let named : m .sound-names .result ≡ all namePlaced (take (b .variables + b .symbols) (b .names)) = m .sound-names .ensures in
     c .both2 .ensures
-    ∙ ap₂ _&&_ (c .before .before .both .ensures ∙ ap₂ _&&_ (m .before .before .sound-symbols .ensures) (m .sound-names .ensures))
-    (c .before .sound-pattern .ensures)
-    ∙ sym (book-parts (e .args .b) (book-sized (e .args .b) (e .good .0)) (t .before .before .if1 .left) (few t .0) (few t .1))
+    ∙ ap₂ _&&_ (c .before .before .both .ensures ∙ ap₂ _&&_ (m .before .before .sound-symbols .ensures) named) (c .before .sound-pattern .ensures)
+    ∙ sym (book-parts b (book-sized b (e .good .0)) (t .before .before .if1 .left) (few t .0) (few t .1))
 
 returns-3 : tie.Need-returns-3
 returns-3 c = sym (book-none (c .before .before .before .before .before .before .args .b) (sym (c .before .within .ensures) ∙ c .if2 .left))

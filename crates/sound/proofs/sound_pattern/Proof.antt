@@ -1,7 +1,7 @@
 -- `sound::sound_pattern` meets its contract: the empty word, the number of positions, then masks and occurrences.
-use mathlib.Core.Path.{_≡_, sym, ap₂, _∙_}
-use mathlib.Core.Bool.{Bool, true, _&&_}
-use Prim.Native.Nat.{ℕ, _≤_}
+use mathlib.Core.Path.{sym, ap₂, _∙_}
+use mathlib.Core.Bool.{_&&_}
+use Prim.Native.Nat.{_≤_}
 use borrow.Author.Tests.{leb-true}
 use borrow.Author.Needs.{needs}
 use lib.Dec.{leb}
@@ -11,8 +11,10 @@ use Rattle.sound.proofs.sound_pattern.Statement.{statement}
 use Rattle.sound.proofs.sound_pattern.Tie as tie
 
 -- what `within` has found
-few : {r : Bool} {n : ℕ} → r ≡ (leb 1 n && leb n 31) → r ≡ true → n ≤ 31
-few {n = n} e h = leb-true n 31 (and-true-split (leb 1 n) (leb n 31) (sym e ∙ h) .1)
+few : (c : tie.Then2) → c .before .before .before .before .before .args .b .positions ≤ 31
+few c =
+    let n = c .before .before .before .before .before .args .b .positions in
+    leb-true n 31 (and-true-split (leb 1 n) (leb n 31) (sym (c .before .within .ensures) ∙ c .if2 .taken) .1)
 
 returns : tie.Need-returns
 returns c = sym (pattern-empty (c .before .before .before .args .b) (c .if1 .taken))
@@ -21,19 +23,19 @@ within-requires : tie.Need-within-requires
 within-requires c κs = search needs
 
 sound-mask-requires : tie.Need-sound-mask-requires
-sound-mask-requires c κs = few (c .before .within .ensures) (c .if2 .taken)
+sound-mask-requires c κs = few c
 
 sound-mask-requires-2 : tie.Need-sound-mask-requires-2
-sound-mask-requires-2 c κs = few (c .before .before .within .ensures) (c .before .if2 .taken)
+sound-mask-requires-2 c κs = few (c .before)
 
 both-requires : tie.Need-both-requires
 both-requires c κs = search needs
 
 sound-occurrences-requires : tie.Need-sound-occurrences-requires
-sound-occurrences-requires c κs = let t = c .before .before .before in few (t .before .within .ensures) (t .if2 .taken)
+sound-occurrences-requires c κs = few (c .before .before .before)
 
 sound-masks-requires : tie.Need-sound-masks-requires
-sound-masks-requires c κs = let t = c .before .before .before .before in few (t .before .within .ensures) (t .if2 .taken)
+sound-masks-requires c κs = few (c .before .before .before .before)
 
 both-requires-2 : tie.Need-both-requires-2
 both-requires-2 c κs = search needs
