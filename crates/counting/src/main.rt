@@ -1,13 +1,13 @@
 // The calls that change a lent tally, `counted::event` and `tally::count`, run: document 01's six events of B1 with refused ones between,
 // whose answers, rows and counters are printed, and counters that stop at the largest 64-bit value.
 use book::Book;
+use calls::Taken;
 use counted::Given;
 use state::State;
 use tally::Tally;
-use watch::Taken;
 ghost use mathlib.Core.Path.{_≡_};
 ghost use Rattle.tally.specs.Tallies.{tallied};
-ghost use Rattle.watch.specs.Calls.{taken, bufferAfter};
+ghost use Rattle.calls.specs.Calls.{taken, bufferAfter};
 
 // How many events there are, the buffer that is lent for rows, and the largest value of a counter.
 const EVENTS: usize = 9;

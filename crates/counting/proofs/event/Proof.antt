@@ -2,6 +2,7 @@
 -- reference to a struct. The tally is copied into a local, which is lent for a lifetime that is made for the call of `counted::event`; both
 -- slices are given up; the local is taken back at its last value, and `joined` puts it beside the rest.
 -- The walk knows of each callee only that it meets its contract, and never looks into a struct.
+use mathlib.Core.Bool.{true}
 use mathlib.Core.Path.{_≡_, refl, sym, subst, _∙_}
 use Prim.Native.Nat.{ℕ, _<_, _^_}
 use mathlib.Core.List.{[], _∷_, List}
@@ -49,9 +50,10 @@ use denote.Exit.{yes}
 use Rattle.book.specs.declared.Book.{Book}
 use Rattle.state.specs.declared.State.{State}
 use Rattle.tally.specs.declared.Tally.{Tally}
-use Rattle.watch.specs.declared.Taken.{Taken}
+use Rattle.calls.specs.declared.Taken.{Taken}
 use Rattle.counted.specs.declared.Given as GD
-use Rattle.watch.specs.Calls.{taken, bufferAfter}
+use Rattle.form.specs.Text.{isBytes}
+use Rattle.calls.specs.Calls.{taken, bufferAfter}
 use Rattle.counted.specs.Given.{givenOf}
 use Rattle.book.proofs.Book as B
 use Rattle.book.proofs.Book.Laws as B′
@@ -60,8 +62,8 @@ use Rattle.state.proofs.State.Laws as S′
 use Rattle.tally.proofs.Walks.{local, shown, had}
 use Rattle.tally.proofs.Tally as T
 use Rattle.tally.proofs.Tally.Laws as T′
-use Rattle.watch.proofs.Taken as R
-use Rattle.watch.proofs.Taken.Laws as R′
+use Rattle.calls.proofs.Taken as R
+use Rattle.calls.proofs.Taken.Laws as R′
 use Rattle.counted.proofs.Given as G
 use Rattle.counted.proofs.Given.Laws as G′
 use Rattle.counted.proofs.event as called
@@ -217,7 +219,7 @@ module _ {M : Type 1} (𝓤 : URA M) (H : Heap 𝓤) (A : Atoms 𝓤) (at-mem : 
     last-tally zs = zs .1 .1 .1 .1 .1 .0
 
     abbrev Told : GD.Given → Lasts → Type 0
-    Told g zs = (g ≡ givenOf out) × (last-rows zs ≡ after) × (last-tally zs ≡ out .tally)
+    Told g zs = (g ≡ givenOf out) × (last-rows zs ≡ after) × (last-tally zs ≡ out .tally) × (isBytes (by′ .now) ≡ true)
 
     abbrev promised : ℕ → ℕ → GName → GD.Given → Item 𝓤
     promised α l δ g = some (λ (zs : Lasts). ‵ (lasts called.ended (κ₀, (κ₁, (α ∷ [], tt))) (to l δ) zs) ⊛ raw (fact 𝓤 (Told g zs)))
