@@ -3,9 +3,6 @@ use book::Book;
 use book::TEXT_LIMIT;
 use disjunct::Disjunct;
 use piece::POSITIONS;
-use slot::BEFORE;
-use slot::Slot;
-use state::State;
 use table::NAMES;
 use table::Name;
 use table::PARAMETERS;
@@ -14,21 +11,16 @@ use table::SYMBOLS;
 use table::Symbol;
 ghost use mathlib.Core.Path.{_≡_};
 ghost use mathlib.Core.Bool.{_&&_};
-ghost use Prim.Native.Nat.{compare, min, _≤_};
+ghost use Prim.Native.Nat.{_≤_};
 ghost use lib.Dec.{leb, ltb};
 ghost use lib.ListN.{take};
 ghost use Rattle.laws.specs.Lists.{all};
-ghost use Rattle.laws.specs.Order.{isLess, ascending};
 ghost use Rattle.pattern.specs.Positions.{occurrenceLimit};
 ghost use Rattle.meaning.specs.Book.{soundParameter, soundMask};
-ghost use Rattle.meaning.specs.Labels.{heldAt, compareHeld};
-ghost use Rattle.meaning.specs.Room.{exclusionLimit, heldLimit};
-ghost use Rattle.meaning.specs.Limits.{variableLimit, symbolLimit, parameterLimit};
+ghost use Rattle.meaning.specs.Limits.{symbolLimit, parameterLimit};
 ghost use Rattle.table.specs.Tables.{namesLimit, viewParameter};
-ghost use Rattle.disjunct.specs.Disjuncts.{viewDisjunct};
-ghost use Rattle.state.specs.States.{heldFirst};
-ghost use Rattle.sound.specs.Soundness.{namePlaced, bookSound, stateSound};
-ghost use Rattle.sound.specs.Tests.{slotSound, disjunctSound, symbolSound, patternSound, poolSound};
+ghost use Rattle.sound.specs.Soundness.{namePlaced, bookSound};
+ghost use Rattle.sound.specs.Tests.{symbolSound, patternSound};
 
 // "KIND is 1 to 255"
 const KIND_LIMIT: usize = 255;
@@ -43,144 +35,13 @@ fn both(a: bool, b: bool) -> bool
 }
 
 // low to high, both included.
-fn within(x: usize, low: usize, high: usize) -> bool
+pub fn within(x: usize, low: usize, high: usize) -> bool
     ensures { λ r. ⌜ r ≡ (leb low x && leb x high) ⌝ }
 {
     if x < low {
         return false;
     }
     x <= high
-}
-
-fn least(a: usize, b: usize) -> usize
-    ensures { λ r. ⌜ r ≡ min a b ⌝ }
-{
-    if a < b {
-        return a;
-    }
-    b
-}
-
-// The first n numbers ascend.
-fn ascends(xs: [u32; Disjunct::EXCLUSIONS], n: usize) -> bool
-    requires { ⌜ n ≤ exclusionLimit ⌝ }
-    ensures { λ r. ⌜ r ≡ ascending compare (take n xs) ⌝ }
-{
-    let mut i: usize = 1;
-    while i < n {
-        if xs[i] <= xs[i - 1] {
-            return false;
-        }
-        i += 1;
-    }
-    true
-}
-
-fn sound_slot(s: Slot) -> bool
-    ensures { λ r. ⌜ r ≡ slotSound s ⌝ }
-{
-    let n = s.count;
-    let xs = s.excluded;
-    if s.bound {
-        return n == 0;
-    }
-    if Disjunct::EXCLUSIONS < n {
-        return false;
-    }
-    ascends(xs, n)
-}
-
-// Each of the first n variables.
-fn sound_disjunct(d: Disjunct, n: usize) -> bool
-    requires { ⌜ n ≤ variableLimit ⌝ }
-    ensures { λ r. ⌜ r ≡ disjunctSound n d ⌝ }
-{
-    let mut i: usize = 0;
-    while i < n {
-        let s = d.vars[i];
-        if sound_slot(s) {
-            i += 1;
-        } else {
-            return false;
-        }
-    }
-    true
-}
-
-// One held disjunct before another: by position, then by the order of disjuncts.
-fn before(p: u32, d: Disjunct, q: u32, e: Disjunct, n: usize) -> bool
-    requires { ⌜ n ≤ variableLimit ⌝ }
-    ensures { λ r. ⌜ r ≡ isLess (compareHeld (heldAt p (take n (viewDisjunct d))) (heldAt q (take n (viewDisjunct e)))) ⌝ }
-{
-    if p < q {
-        return true;
-    }
-    if q < p {
-        return false;
-    }
-    let x = d.tidied(n);
-    let y = e.tidied(n);
-    x.order(y) == BEFORE
-}
-
-// Each of the held disjuncts by itself.
-fn sound_pool(s: State, variables: usize, positions: usize) -> bool
-    requires { ⌜ (variables ≤ variableLimit) × (s .count ≤ heldLimit) ⌝ }
-    ensures { λ r. ⌜ r ≡ poolSound variables positions s ⌝ }
-{
-    let n = s.count;
-    let mut i: usize = 0;
-    while i < n {
-        let p = s.positions[i] as usize;
-        let d = s.pool[i];
-        if within(p, 1, positions) {
-            if sound_disjunct(d, variables) {
-                i += 1;
-            } else {
-                return false;
-            }
-        } else {
-            return false;
-        }
-    }
-    true
-}
-
-// The held disjuncts in their order.
-fn sound_order(s: State, variables: usize) -> bool
-    requires { ⌜ (variables ≤ variableLimit) × (s .count ≤ heldLimit) ⌝ }
-    ensures { λ r. ⌜ r ≡ ascending compareHeld (heldFirst variables s) ⌝ }
-{
-    let n = s.count;
-    let mut i: usize = 1;
-    while i < n {
-        let d = s.pool[i - 1];
-        let e = s.pool[i];
-        if before(s.positions[i - 1], d, s.positions[i], e, variables) {
-            i += 1;
-        } else {
-            return false;
-        }
-    }
-    true
-}
-
-pub fn sound_state(b: Book, s: State) -> bool
-    requires { ⌜ b .variables ≤ variableLimit ⌝ }
-    ensures { λ r. ⌜ r ≡ stateSound b s ⌝ }
-{
-    if state::EVENTS < s.number {
-        return false;
-    }
-    if state::CAPACITY < s.count {
-        return false;
-    }
-    // No more positions than the book has room for.
-    let positions = least(b.positions, POSITIONS);
-    if sound_pool(s, b.variables, positions) {
-        return sound_order(s, b.variables);
-    }
-    false
 }
 
 // An argument place: ignored, or one of the variables.

@@ -103,7 +103,7 @@ pub fn step(book: Book, state: State, bytes: &[u8], out: &mut rows::Words) -> St
         × (r .number ≡ 0 → Moved book state (eventIn (now (bytes .entry))) (r .state) (r .rows) (now (out .exit))) ⌝ }
 {
     if sound::sound_book(book) {
-        if sound::sound_state(book, state) {
+        if sound_state::sound_state(book, state) {
             let d = record::decode(bytes);
             if d.ok {
                 let e = d.event;

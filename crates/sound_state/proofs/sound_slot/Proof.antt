@@ -1,10 +1,10 @@
--- `sound::sound_slot` meets its contract: a bound slot by its count, a free one by its exclusions.
+-- `sound_state::sound_slot` meets its contract: a bound slot by its count, a free one by its exclusions.
 use mathlib.Core.Path.{sym, _∙_}
 use borrow.Author.Needs.{needs}
 use Rattle.sound.proofs.Sizes.{slot-words}
 use Rattle.sound.proofs.Parts.{slot-bound, slot-many, slot-free}
-use Rattle.sound.proofs.sound_slot.Statement.{statement}
-use Rattle.sound.proofs.sound_slot.Tie as tie
+use Rattle.sound_state.proofs.sound_slot.Statement.{statement}
+use Rattle.sound_state.proofs.sound_slot.Tie as tie
 
 returns : tie.Need-returns
 returns c = let t = c .before .before in sym (slot-bound (t .args .s) (slot-words (t .args .s) (t .good .0)) (c .if1 .taken))

@@ -1,4 +1,4 @@
--- `sound::sound_pool` meets its contract: the positions and disjuncts ahead tell what all tell.
+-- `sound_state::sound_pool` meets its contract: the positions and disjuncts ahead tell what all tell.
 use mathlib.Core.Path.{_≡_, refl, sym, _∙_}
 use mathlib.Core.Bool.{Bool, _&&_}
 use mathlib.Core.List.{[]}
@@ -7,11 +7,11 @@ use native.Mathlib.Omega.{arith}
 use borrow.Author.Needs.{needs}
 use lib.Dec.{leb}
 use lib.ListN.{length}
 use Rattle.sound.specs.Tests.{disjunctSound, poolSound}
 use Rattle.sound.proofs.Loops.{pairs, pairs-more, pairs-first, pairs-second, pairs-end}
 use Rattle.sound.proofs.Sizes.{state-sized}
-use Rattle.sound.proofs.sound_pool.Statement.{statement}
-use Rattle.sound.proofs.sound_pool.Tie as tie
+use Rattle.sound_state.proofs.sound_pool.Statement.{statement}
+use Rattle.sound_state.proofs.sound_pool.Tie as tie
 
 -- one position
 abbrev inRange : ℕ → ℕ → Bool

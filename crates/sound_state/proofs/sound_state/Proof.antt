@@ -1,4 +1,4 @@
--- `sound::sound_state` meets its contract: number and count in range, then the pool, then its order.
+-- `sound_state::sound_state` meets its contract: number and count in range, then the pool, then its order.
 use mathlib.Core.Path.{_≡_, sym, ap, _∙_}
 use mathlib.Core.Bool.{_&&_}
 use Prim.Native.Nat.{min}
@@ -7,12 +7,12 @@ use lib.ListN.{length-take}
 use Rattle.laws.specs.Order.{ascending}
 use Rattle.meaning.specs.Labels.{compareHeld}
 use Rattle.state.specs.States.{heldFirst}
 use Rattle.sound.specs.Soundness.{stateSound}
 use Rattle.sound.specs.Tests.{poolSound}
 use Rattle.sound.proofs.Sizes.{book-sized, state-sized}
 use Rattle.sound.proofs.Parts.{state-late, state-many, state-parts}
-use Rattle.sound.proofs.sound_state.Statement.{statement}
-use Rattle.sound.proofs.sound_state.Tie as tie
+use Rattle.sound_state.proofs.sound_state.Statement.{statement}
+use Rattle.sound_state.proofs.sound_state.Tie as tie
 
 -- the state by its parts, where its number and count are in range
 parts : (c : tie.After-least) → let a = c .before .before .before .before .before .args in

@@ -1,4 +1,4 @@
--- `sound::sound_disjunct` meets its contract: the slots ahead tell what all tell.
+-- `sound_state::sound_disjunct` meets its contract: the slots ahead tell what all tell.
 use mathlib.Core.Path.{_≡_, refl}
 use mathlib.Core.Bool.{false}
 use mathlib.Core.List.{[]}
@@ -7,10 +7,10 @@ use native.Mathlib.Omega.{arith}
 use borrow.Author.Needs.{needs}
 use lib.ListN.{length}
 use Rattle.disjunct.proofs.Disjuncts.{sized}
 use Rattle.sound.specs.Tests.{slotSound, disjunctSound}
 use Rattle.sound.proofs.Loops.{Told, told-more, told-stop, told-end}
-use Rattle.sound.proofs.sound_disjunct.Statement.{statement}
-use Rattle.sound.proofs.sound_disjunct.Tie as tie
+use Rattle.sound_state.proofs.sound_disjunct.Statement.{statement}
+use Rattle.sound_state.proofs.sound_disjunct.Tie as tie
 
 abbrev Inv-loop : tie.InvT-loop
 Inv-loop n d i₀ i = (i ≤ n) × (length (d .vars) ≡ 4) × Told slotSound (d .vars) n i

@@ -1,11 +1,11 @@
--- `sound::before` meets its contract: the positions, and for one position the order of the tidied disjuncts.
+-- `sound_state::before` meets its contract: the positions, and for one position the order of the tidied disjuncts.
 use borrow.Author.Needs.{needs}
 use lib.ListN.{take}
 use Rattle.disjunct.specs.Disjuncts.{viewDisjunct}
 use Rattle.disjunct.proofs.Disjuncts.{sized}
 use Rattle.sound.proofs.Held.{held-before, held-after, held-same}
-use Rattle.sound.proofs.before.Statement.{statement}
-use Rattle.sound.proofs.before.Tie as tie
+use Rattle.sound_state.proofs.before.Statement.{statement}
+use Rattle.sound_state.proofs.before.Tie as tie
 
 returns : tie.Need-returns
 returns c =

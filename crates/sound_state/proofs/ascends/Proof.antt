@@ -1,14 +1,14 @@
--- `sound::ascends` meets its contract: the numbers from the one before i on ascend just if all do.
+-- `sound_state::ascends` meets its contract: the numbers from the one before i on ascend just if all do.
 use mathlib.Core.Path.{_≡_, refl}
 use Prim.Native.Nat.{compare, _-_, _≤_}
 use native.Mathlib.Omega.{arith}
 use borrow.Author.Needs.{needs}
 use lib.ListN.{length, take, length-take}
 use lib.Seq.{length-take-le}
 use Rattle.sound.proofs.Loops.{Rises, among, rises-more, rises-stop, rises-end}
 use Rattle.sound.proofs.Held.{less-true, less-false}
-use Rattle.sound.proofs.ascends.Statement.{statement}
-use Rattle.sound.proofs.ascends.Tie as tie
+use Rattle.sound_state.proofs.ascends.Statement.{statement}
+use Rattle.sound_state.proofs.ascends.Tie as tie
 
 abbrev Inv-loop : tie.InvT-loop
 Inv-loop n xs i₀ i = (1 ≤ i) × (length xs ≡ 6) × Rises compare (take n xs) i

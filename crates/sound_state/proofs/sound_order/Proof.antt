@@ -1,4 +1,4 @@
--- `sound::sound_order` meets its contract: the held disjuncts from the one before i on ascend just if all do.
+-- `sound_state::sound_order` meets its contract: the held disjuncts from the one before i on ascend just if all do.
 use mathlib.Core.Path.{_≡_, refl}
 use mathlib.Core.List.{[]}
 use Prim.Native.Nat.{_-_, _≤_}
@@ -7,11 +7,11 @@ use borrow.Author.Needs.{needs}
 use lib.ListN.{length}
 use Rattle.meaning.specs.Labels.{heldAt, compareHeld}
 use Rattle.state.specs.States.{heldFirst}
 use Rattle.sound.proofs.Loops.{Rises, rises-more, rises-stop, rises-end}
 use Rattle.sound.proofs.Sizes.{state-sized}
 use Rattle.sound.proofs.Held.{held-length, held-less}
-use Rattle.sound.proofs.sound_order.Statement.{statement}
-use Rattle.sound.proofs.sound_order.Tie as tie
+use Rattle.sound_state.proofs.sound_order.Statement.{statement}
+use Rattle.sound_state.proofs.sound_order.Tie as tie
 
 abbrev Inv-loop : tie.InvT-loop
 Inv-loop variables s n i₀ i =
