@@ -29,7 +29,8 @@ use Rattle.state.specs.States.{stateOf, heldFirst, viewState}
 use Rattle.tally.specs.Tallies.{capped, tallied}
 use Rattle.writer.specs.RowBytes.{wordBytes, rowBytes}
 use Rattle.sound.specs.Soundness.{symbolCounts, bookCounts, bookSound, slotCounts, stateCounts, stateSound}
-use Rattle.calls.specs.Calls.{freshState, rowsBy, stateBy, leavesFreeBy, roomBy, unsound, outOfForm, tooMany, noRoom, noSpace, answerTo, taken, bufferAfter}
+use Rattle.calls.specs.Calls.{freshState, rowsBy, stateBy, leavesFreeBy, roomBy, unsound, outOfForm, tooMany, noRoom, noSpace}
+use Rattle.calls.specs.Calls.{answerTo, taken, bufferAfter}
 use Rattle.calls.specs.Answers.{numberOf}
 use Rattle.calls.specs.Runs.{Call, event, Made, make, runOf}
 use Rattle.calls.specs.Witness.{text, load, dropped}

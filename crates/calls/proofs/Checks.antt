@@ -95,7 +95,8 @@ module _ (b : Book) (s : State) (bytes : Bytes) where
     back,
   )
     where
-      back : Unsound b s bytes → (not (bookSound b && stateSound b s) || isRecord bytes && leavesFree (viewBook b) (heldFirst (b .variables) s) (eventIn bytes)) ≡ true
+      back : Unsound b s bytes
+          → (not (bookSound b && stateSound b s) || isRecord bytes && leavesFree (viewBook b) (heldFirst (b .variables) s) (eventIn bytes)) ≡ true
       back (unsoundBook h) = rw h
       back (unsoundState h) = rw (h, and-false)
       back (leftFree f g) = rw (f, g, or-true)

@@ -1,7 +1,6 @@
 -- The theorems of the three demands, over the definitions that the contracts cite: Listed, Answered, Crossed; all together for an
--- accepted text: Demands; for any book and state: Checks. On the way to them: States and Bridge (structs against plain states), Course (runs against plain runs), Tails
--- (bytes of rows). Witness has two runs to which Crossed applies; Anchors a few
--- calls, computed.
+-- accepted text: Demands; for any book and state: Checks. On the way to them: States and Bridge (structs against plain states), Course
+-- (runs against plain runs), Tails (bytes of rows). Witness has two runs to which Crossed applies; Anchors a few calls, computed.
 pub mod Anchors
 pub mod States
 pub mod Bridge

@@ -49,7 +49,9 @@ xs = call (load 1 7) rowSize 0 ∷ call (load 2 8) rowSize 0 ∷ call (dropped 1
 
 -- the second call is refused
 unfoldable pub ys : List Call
-ys = call (load 2 8) rowSize 0 ∷ call (replicate 19 1) rowSize 0 ∷ call (load 1 7) rowSize 0 ∷ call (dropped 2) (2 * rowSize + 2) (rowSize + 1) ∷ call (dropped 1) rowSize 0 ∷ []
+ys =
+    call (load 2 8) rowSize 0 ∷ call (replicate 19 1) rowSize 0 ∷ call (load 1 7) rowSize 0 ∷ call (dropped 2) (2 * rowSize + 2) (rowSize + 1)
+    ∷ call (dropped 1) rowSize 0 ∷ []
 
 -- the two runs
 abbrev pub runX : List Made

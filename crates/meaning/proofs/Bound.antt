@@ -17,7 +17,8 @@ use Rattle.pattern.specs.Positions as Positions
 use Rattle.pattern.specs.Positions.{Has, Reach, start, next}
 use Rattle.pattern.proofs.Masks.{Among, beginning-among, following-among, symbolAt-list}
 use Rattle.pattern.proofs.Spell.{positions-left}
-use Rattle.meaning.specs.Events.{Parameter, ignored, names, Symbol, Event, Demand, Constraint, never, demands, matches, demandsOf, consistent, constraintOf}
+use Rattle.meaning.specs.Events.{Parameter, ignored, names, Symbol, Event, Demand, Constraint, never, demands}
+use Rattle.meaning.specs.Events.{matches, demandsOf, consistent, constraintOf}
 use Rattle.meaning.specs.Meaning.{Tracematch, noSymbol}
 use Rattle.meaning.specs.Book.{Book, bookOf, Proper, binds, positions, endsAt, followsAt, symbolOf}
 use Rattle.meaning.specs.Labels.{Entry, bound, free, Disjunct, entryOf, isFree, bind, metAll, meets, met}

@@ -11,6 +11,7 @@ use Rattle.laws.specs.Lists.{any, all, keep, gather}
 use Rattle.laws.specs.Sets.{insertAll, setOf}
 use Rattle.laws.proofs.Lists.{and-true-split, any-append, any-map, any-keep, any-gather, any-agree, any-and, all-map, all-at, all-of}
 use Rattle.laws.proofs.Sets.{any-insertAll}
+use Rattle.meaning.specs.Limits.{kindLimit, parameterLimit}
 use Rattle.meaning.specs.Events.{Symbol, Event, Constraint, constraintOf, Valuation, satisfies, holds, concerns}
 use Rattle.meaning.specs.Meaning.{noSymbol}
 use Rattle.meaning.specs.Book.{Book, soundParameter, soundSymbol, positions, beginsAt, followsAt, goesOn, symbolOf}
@@ -45,7 +46,8 @@ skipThrough-long n (c ∷ cs) l h = skipThrough-long n cs (skipBy c l) (skipBy-l
 pub symbol-inRange : (n : ℕ) (s : Symbol) (e : Event) → soundSymbol n s ≡ true → inRange n (constraintOf s e) ≡ true
 unfolding soundSymbol
 symbol-inRange n s e h =
-    constraint-inRange n s e (and-true-split (leb 1 (s .kind) && leb (s .kind) 255 && leb (length (s .parameters)) 4) (all (soundParameter n) (s .parameters)) h .1)
+    let ranges = leb 1 (s .kind) && leb (s .kind) kindLimit && leb (length (s .parameters)) parameterLimit in
+    constraint-inRange n s e (and-true-split ranges (all (soundParameter n) (s .parameters)) h .1)
 
 -- a symbol by its number; out of range it is one that has no places
 pub numbered-inRange : (n : ℕ) (l : List Symbol) (i : ℕ) (e : Event) → all (soundSymbol n) l ≡ true

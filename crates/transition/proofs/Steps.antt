@@ -47,7 +47,8 @@ use Rattle.rows.specs.Valuations.{valuationsIn, rowsGrown}
 use Rattle.rows.proofs.Valuations as Words
 use Rattle.calls.specs.Calls.{rowsBy, stateBy, leavesFreeBy, roomBy}
 use Rattle.transition.specs.Moves.{judgedNumber, Moved}
-use Rattle.transition.proofs.Checks.{BookSound, StateSound, judged-free, judged-many, judged-room, stepNumber, number-judged, decoded-record, decoded-view}
+use Rattle.transition.proofs.Checks.{BookSound, StateSound, judged-free, judged-many, judged-room, stepNumber, number-judged}
+use Rattle.transition.proofs.Checks.{decoded-record, decoded-view}
 
 -- the positions of what is held
 positions-in : (n : ℕ) (at w : List ℕ) → n ≤ 128 → map (λ h. h .position) (heldIn n at w) ≡ take n at

@@ -79,7 +79,8 @@ turned c e m =
     let s = c .before .before .before .before .before .before in
     let a = s .args in
     let given : rowsGrown (c .rows-of .result) (words c)
-    ≡ rowsWith (viewConstraint (constraintAt (a .t1) (a .t2) (p .i))) (sourcesOf (a .t1) (a .n) (a .masks .now) (a .held .now) (p .i + 1)) (listed (p .m) (p .out)) =
+    ≡ rowsWith (viewConstraint (constraintAt (a .t1) (a .t2) (p .i))) (sourcesOf (a .t1) (a .n) (a .masks .now) (a .held .now) (p .i + 1))
+    (listed (p .m) (p .out)) =
     c .rows-of .ensures in
     ap (rowsAhead (a .t1) (a .n) (a .at .now) (a .held .now) e (p .i + 1)) given
     ∙ sym (rows-turn (known s) (a .held .now) e (p .i) (a .t2) m (listed (p .m) (p .out)) (c .before .before .before .before .loop-test .taken))

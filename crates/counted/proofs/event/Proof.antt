@@ -167,7 +167,8 @@ module _ {M : Type 1} (𝓤 : URA M) (H : Heap 𝓤) (A : Atoms 𝓤) (at-mem : 
         ‵ (fobs γ (T.the-row .coded .code t)) ∷ ‵ (fbor κ₂ (Body (mem T.the-row) b o γ)) ∷ ‵ (flft κ₂ q₂) ∷ ‵ (G.the-row .own g (v ∷ []))
         ∷ tokens ∷ ‵ (finally u8 (rw .name) zs) ∷ []
 
-    exits : (r : Taken) (zs : List ℕ) (t : Tally) (g : GD.Given) (v : Val) → (r ≡ out) × (zs ≡ after) × (isBytes (by′ .now) ≡ true) → length zs ≡ length (rw .now)
+    exits : (r : Taken) (zs : List ℕ) (t : Tally) (g : GD.Given) (v : Val) → (r ≡ out) × (zs ≡ after) × (isBytes (by′ .now) ≡ true)
+        → length zs ≡ length (rw .now)
         → t ≡ r .tally → g ≡ givenOf r → ent 𝓤 (⋆ 𝓤 H A (left zs t g v)) (Post v)
     exits r zs t g v e l et eg =
         qed W (left zs t g v) ∵
