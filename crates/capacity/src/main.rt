@@ -4,6 +4,17 @@ use book::Book;
 use state::State;
 use tally::Tally;
 
+// A row, an event record, the disjuncts that a state has places for, and a buffer for as many rows.
+const ROW_BYTES: usize = 24;
+
+const RECORD_BYTES: usize = 20;
+
+const CAPACITY: usize = 128;
+
+const LAST: u8 = 128;
+
+const ROOM: usize = 3072;
+
 // What was compared, and the state to go on from.
 struct Run {
     state: State,
@@ -12,7 +23,7 @@ struct Run {
 }
 
 // The record of an event with two arguments below 256, or with one.
-fn record(kind: u8, count: u8, x: u8, y: u8) -> [u8; 20] {
+fn record(kind: u8, count: u8, x: u8, y: u8) -> [u8; RECORD_BYTES] {
     [
         kind,
         count,
@@ -39,8 +50,8 @@ fn record(kind: u8, count: u8, x: u8, y: u8) -> [u8; 20] {
 
 // Whether row number i in the buffer is the event's number, two variables, 1 and i + 1.
 fn is_row(rows: &[u8], i: usize, number: u8) -> bool {
-    if i < 128 {
-        let at = i * 24;
+    if i < CAPACITY {
+        let at = i * ROW_BYTES;
         let value = (i % 256 + 1) as u8;
         if at + 12 < rows.len() {
             let a = rows[at];
@@ -85,8 +96,8 @@ fn scored(state: State, r: Run, yes: bool) -> Run {
 }
 
 // One event: the answer, the row count and every row are compared.
-fn expect(book: Book, r: Run, bytes: [u8; 20], answer: usize, count: usize) -> Run {
-    let mut rows = [0u8; 3072];
+fn expect(book: Book, r: Run, bytes: [u8; RECORD_BYTES], answer: usize, count: usize) -> Run {
+    let mut rows = [0u8; ROOM];
     let s = r.state;
     let t = watch::event(book, s, &bytes, &mut rows, 0, Tally::none());
     let a = t.answer;
@@ -99,7 +110,7 @@ fn expect(book: Book, r: Run, bytes: [u8; 20], answer: usize, count: usize) -> R
 fn loads(book: Book, r: Run) -> Run {
     let mut run = r;
     let mut i: u8 = 1;
-    while i <= 128 {
+    while i <= LAST {
         run = expect(book, run, record(1, 2, 1, i), 0, 0);
         i += 1;
     }
@@ -119,11 +130,11 @@ fn main() {
             wrong: 0,
         },
     );
-    r = expect(book, r, record(1, 2, 1, 129), 12, 0);
-    r = expect(book, r, record(2, 1, 1, 0), 0, 128);
-    r = expect(book, r, record(1, 2, 1, 129), 12, 0);
+    r = expect(book, r, record(1, 2, 1, LAST + 1), 12, 0);
+    r = expect(book, r, record(2, 1, 1, 0), 0, CAPACITY);
+    r = expect(book, r, record(1, 2, 1, LAST + 1), 12, 0);
     r = expect(book, r, record(3, 1, 1, 0), 0, 0);
-    r = expect(book, r, record(1, 2, 1, 129), 0, 0);
+    r = expect(book, r, record(1, 2, 1, LAST + 1), 0, 0);
     io::print_decimal(1, r.right as u64);
     io::write_all(1, b" right, ");
     io::print_decimal(1, r.wrong as u64);

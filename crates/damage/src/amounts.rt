@@ -4,13 +4,16 @@
 pub fn amount(x: u64, k: u64) -> u64 {
     let y = draws::below(x, k % 65536 + 1, 268000000);
     let near = y % 1000;
-    match draws::below(x, k, 6) {
-        0 => y % 1000,
-        1 => y,
-        2 => 4280000000 + near,
-        3 => 18446744073700000000 + near,
-        _ => y % 3,
-    }
+    let few = y % 3;
+    let amounts = [
+        near,
+        y,
+        4280000000 + near,
+        18446744073700000000 + near,
+        few,
+        few,
+    ];
+    amounts[(draws::below(x, k, 6) % 6) as usize]
 }
 
 // The least number out of range, and an amount more.

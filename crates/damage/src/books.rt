@@ -1,6 +1,11 @@
 // Damage to the book of `main`: three symbols (the first with one place, the others with two), two variables, two positions.
 // Kind 0 leaves it, 1 to 14 take it out of what document 01 calls sound, 15 lets a word end at position 1, where `s` is free.
 use crate::amounts;
+use crate::sizes::ARGUMENTS;
+use crate::sizes::NAMES;
+use crate::sizes::POSITIONS;
+use crate::sizes::SYMBOLS;
+use crate::sizes::VARIABLES;
 use book::Book;
 use table::Name;
 use table::Parameter;
@@ -26,19 +31,19 @@ fn miscounted(b: Book, kind: u32, x: u64, y: u64) -> Book {
     let mut r = b;
     match kind {
         1 => {
-            r.variables = amounts::above(5, x);
+            r.variables = amounts::above(VARIABLES + 1, x);
         }
         2 => {
             r.symbols = 0;
         }
         3 => {
-            r.symbols = amounts::above(17, x);
+            r.symbols = amounts::above(SYMBOLS + 1, x);
         }
         4 => {
             return without_positions(b, y);
         }
         5 => {
-            r.positions = amounts::above(32, x);
+            r.positions = amounts::above(POSITIONS + 1, x);
         }
         _ => {}
     }
@@ -114,7 +119,7 @@ fn symbol(s: Symbol, kind: u32, x: u64, y: u64) -> Symbol {
         return r;
     }
     if kind == 12 {
-        r.count = amounts::above(5, x);
+        r.count = amounts::above(ARGUMENTS + 1, x);
         return r;
     }
     if s.count == 2 && y % 2 == 1 {
@@ -168,21 +173,21 @@ pub fn spare(b: Book, x: u64) -> Book {
     r
 }
 
-fn words(a: [u32; 31], x: u32) -> [u32; 31] {
-    let mut r = [x; 31];
+fn words(a: [u32; POSITIONS], x: u32) -> [u32; POSITIONS] {
+    let mut r = [x; POSITIONS];
     r[0] = a[0];
     r[1] = a[1];
     r
 }
 
 // The names of the two variables and the three symbols are judged.
-fn named(a: [Name; 20], n: Name) -> [Name; 20] {
+fn named(a: [Name; NAMES], n: Name) -> [Name; NAMES] {
     let first = a[0];
     let second = a[1];
     let third = a[2];
     let fourth = a[3];
     let fifth = a[4];
-    let mut r = [n; 20];
+    let mut r = [n; NAMES];
     r[0] = first;
     r[1] = second;
     r[2] = third;
@@ -191,16 +196,16 @@ fn named(a: [Name; 20], n: Name) -> [Name; 20] {
     r
 }
 
-fn symbols(a: [Symbol; 16], p: Parameter, x: u64) -> [Symbol; 16] {
+fn symbols(a: [Symbol; SYMBOLS], p: Parameter, x: u64) -> [Symbol; SYMBOLS] {
     let other = Symbol {
         kind: amounts::short(x),
         count: x as usize,
-        parameters: [p; 4],
+        parameters: [p; ARGUMENTS],
     };
     let first = a[0];
     let second = a[1];
     let third = a[2];
-    let mut r = [other; 16];
+    let mut r = [other; SYMBOLS];
     r[0] = places(first, p);
     r[1] = places(second, p);
     r[2] = places(third, p);

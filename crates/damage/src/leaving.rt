@@ -5,6 +5,9 @@ use crate::lending::Kinds;
 use crate::lending::Space;
 use crate::moves::Move;
 use crate::records;
+use crate::sizes::BUFFER;
+use crate::sizes::MOST_EVENTS;
+use crate::sizes::ROW_BYTES;
 use crate::states;
 use state::State;
 use tally::Tally;
@@ -25,7 +28,7 @@ fn rows_of(k: Kinds, m: Move) -> usize {
 // Whether there is space from the place on for the row, if there is one; the place itself must not be beyond the end.
 fn fits(s: Space, rows: usize) -> bool {
     if s.place <= s.size {
-        return rows == 0 || 24 <= s.size - s.place;
+        return rows == 0 || ROW_BYTES <= s.size - s.place;
     }
     false
 }
@@ -42,7 +45,7 @@ fn answer_of(k: Kinds, m: Move, s: Space) -> usize {
     if k.book == 15 && m.kind == 5 {
         return 9;
     }
-    if h.number == 1000000 {
+    if h.number == MOST_EVENTS {
         return 11;
     }
     if !m.room {
@@ -103,7 +106,7 @@ pub fn told(k: Kinds, m: Move, s: Space, state: State, t: Tally) -> Left {
 }
 
 // The bytes of the row of an event: its number, two variables, their values.
-fn row(number: u32, a: u32, b: u32) -> [u8; 24] {
+fn row(number: u32, a: u32, b: u32) -> [u8; ROW_BYTES] {
     [
         records::part(number, 1),
         records::part(number, 256),
@@ -139,16 +142,16 @@ fn put_byte(out: &mut [u8], at: usize, b: u8) {
 }
 
 // The row at its place.
-fn put_row(bytes: [u8; 24], out: &mut [u8], place: usize) {
+fn put_row(bytes: [u8; ROW_BYTES], out: &mut [u8], place: usize) {
     let mut i: usize = 0;
-    while i < 24 {
+    while i < ROW_BYTES {
         put_byte(out, place % 1000 + i, bytes[i]);
         i += 1;
     }
 }
 
 // The buffer with the event's row, where it has one.
-pub fn buffer_after(before: [u8; 64], rows: usize, m: Move, place: usize) -> [u8; 64] {
+pub fn buffer_after(before: [u8; BUFFER], rows: usize, m: Move, place: usize) -> [u8; BUFFER] {
     let h = m.held;
     let mut r = before;
     if 0 < rows {

@@ -5,6 +5,8 @@ use crate::books;
 use crate::moves::Move;
 use crate::records;
 use crate::records::Lent;
+use crate::sizes::BUFFER;
+use crate::sizes::ROW_BYTES;
 use crate::states;
 use book::Book;
 use state::State;
@@ -49,10 +51,10 @@ pub fn drawn_space(seed: u64) -> Space {
     let near = draws::below(seed, 43, 2) as usize;
     match draws::below(seed, 40, 16) {
         0..=2 => spaced(size, place),
-        3..=4 => spaced(24 + size % 40, size % 40 + near % 2),
+        3..=4 => spaced(ROW_BYTES + size % 40, size % 40 + near % 2),
         5 => spaced(size, size % 64 + near % 2),
         6 => spaced(size, amounts::amount(seed, 44) as usize),
-        _ => spaced(64, place % 41),
+        _ => spaced(BUFFER, place % 41),
     }
 }
 

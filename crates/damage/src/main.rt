@@ -7,15 +7,20 @@ mod lending;
 mod moves;
 mod records;
 mod same;
+mod sizes;
 mod states;
 
 use book::Book;
 use leaving::Left;
 use lending::Space;
 use records::Lent;
+use sizes::BUFFER;
+use sizes::RECORD_ROOM;
+use sizes::ROW_BYTES;
 use state::State;
 use tally::Tally;
 use watch::Taken;
+ghost use Prim.Native.Nat.{_≤_};
 
 // How many cases there were, how many got each answer, and how many left something else than they must.
 struct Score {
@@ -29,18 +34,26 @@ struct Score {
     differences: u32,
 }
 
+// A number, or the largest that may be.
+fn at_most(x: usize, most: usize) -> usize
+    ensures { λ r. ⌜ r ≤ most ⌝ }
+{
+    if x <= most { x } else { most }
+}
+
 // The call with so many bytes of the record and of the buffer.
 fn call(book: Book, state: State, l: Lent, rows: &mut [u8], s: Space, tally: Tally) -> Taken {
     let bytes = l.bytes;
-    let length = l.length;
-    let size = s.size;
-    if length <= 21 {
-        let part = &bytes[..length];
-        if size <= rows.len() {
-            return watch::event(book, state, part, &mut rows[..size], s.place, tally);
-        }
-    }
-    watch::event(book, state, &bytes, rows, s.place, tally)
+    let length = at_most(l.length, RECORD_ROOM);
+    let size = at_most(s.size, rows.len());
+    watch::event(
+        book,
+        state,
+        &bytes[..length],
+        &mut rows[..size],
+        s.place,
+        tally,
+    )
 }
 
 // Whether answer, row count, book, state and tally are as they must be.
@@ -51,11 +64,11 @@ fn as_told(r: Taken, l: Left, book: Book) -> bool {
     let t = r.tally;
     let state = l.state;
     let tally = l.tally;
-    watch::number_of(a) == l.answer
-        && r.rows == l.rows
-        && same::tallies(t, tally)
-        && same::books(b, book)
-        && same::states(s, state)
+    (watch::number_of(a) == l.answer)
+        & (r.rows == l.rows)
+        & same::tallies(t, tally)
+        & same::books(b, book)
+        & same::states(s, state)
 }
 
 fn scored(score: Score, answer: usize, good: bool) -> Score {
@@ -98,21 +111,21 @@ fn one(seed: u64, read: Book, score: Score) -> Score {
     let tally = lending::lent_tally(seed);
     let lent = lending::lent_record(seed, m, k.record);
     let l = leaving::told(k, m, s, state, tally);
-    let mut rows = [0u8; 64];
+    let mut rows = [0u8; BUFFER];
     lending::fill(seed, &mut rows);
     let want = leaving::buffer_after(rows, l.rows, m, s.place);
     let r = call(book, state, lent, &mut rows, s, tally);
     let a = r.answer;
-    let good = as_told(r, l, book) && same::bytes(rows, want);
+    let good = as_told(r, l, book) & same::bytes(rows, want);
     scored(score, watch::number_of(a), good)
 }
 
 // An event taken in the ordinary way.
 fn after(book: Book, state: State, kind: u8, count: u8, a: u32, b: u32) -> State {
     let l = records::written(kind, count, a, b);
-    let mut rows = [0u8; 24];
+    let mut rows = [0u8; ROW_BYTES];
     let t = Tally::none();
-    let s = lending::spaced(24, 0);
+    let s = lending::spaced(ROW_BYTES, 0);
     let r = call(book, state, l, &mut rows, s, t);
     r.state
 }
@@ -134,7 +147,7 @@ fn reached(book: Book) -> bool {
     let z = after(book, z, 1, 2, 1, 59);
     let a = states::clean(h);
     let b = states::clean(k);
-    same::states(s, a) && same::states(z, b)
+    same::states(s, a) & same::states(z, b)
 }
 
 fn line(n: u32, word: &[u8]) {

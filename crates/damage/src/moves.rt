@@ -1,6 +1,8 @@
 // Events for four states of the book of `main`, and what document 01 says of each: its rows, and the state that it leaves.
 // The states: two partial matches with different values of `d`, two with the same, one with six exclusions, and the fresh one.
 use crate::amounts;
+use crate::sizes::EXCLUSIONS;
+use crate::sizes::MOST_EVENTS;
 use crate::states;
 use crate::states::Held;
 use disjunct::Disjunct;
@@ -44,7 +46,15 @@ fn crowded(held: Held, kind: u8, a: u32, b: u32) -> Move {
 }
 
 // One that meets the disjunct at a place and excludes its value there; `seal` also has a row.
-fn meeting(held: Held, kind: u8, a: u32, b: u32, at: usize, n: usize, xs: [u32; 6]) -> Move {
+fn meeting(
+    held: Held,
+    kind: u8,
+    a: u32,
+    b: u32,
+    at: usize,
+    n: usize,
+    xs: [u32; EXCLUSIONS],
+) -> Move {
     let mut m = still(held, kind, 2, a, b);
     let d = states::partial(a, n, xs);
     m.changes = true;
@@ -59,7 +69,7 @@ fn meeting(held: Held, kind: u8, a: u32, b: u32, at: usize, n: usize, xs: [u32; 
 // `open`: nothing is excluded for that value of `d`; a partial match that had it ends, and the new one stands at a place.
 fn opening(held: Held, a: u32, at: usize) -> Move {
     let mut m = still(held, 5, 1, a, 0);
-    let d = states::partial(a, 0, [0u32; 6]);
+    let d = states::partial(a, 0, [0u32; EXCLUSIONS]);
     m.changes = true;
     m.at = at;
     m.disjunct = d;
@@ -69,7 +79,7 @@ fn opening(held: Held, a: u32, at: usize) -> Move {
 // open(1), open(2), fill(1,7), fill(1,9)
 pub fn two(number: u32) -> Held {
     let d = states::partial(1, 2, [7u32, 9, 0, 0, 0, 0]);
-    let e = states::partial(2, 0, [0u32; 6]);
+    let e = states::partial(2, 0, [0u32; EXCLUSIONS]);
     Held {
         number: number,
         count: 2,
@@ -80,7 +90,7 @@ pub fn two(number: u32) -> Held {
 
 // Sound, though no run reaches it: `d` is 1 in both.
 fn twice(number: u32) -> Held {
-    let d = states::partial(1, 0, [0u32; 6]);
+    let d = states::partial(1, 0, [0u32; EXCLUSIONS]);
     let e = states::partial(1, 2, [7u32, 9, 0, 0, 0, 0]);
     Held {
         number: number,
@@ -166,8 +176,8 @@ fn in_none(h: Held, which: u64, kind: u8, v: u32) -> Move {
 // The event number: as the state was reached, or any up to the last.
 fn number(seed: u64, reached: u32) -> u32 {
     match draws::below(seed, 10, 8) {
-        0 => 1000000,
-        1 => 999999,
+        0 => MOST_EVENTS,
+        1 => MOST_EVENTS - 1,
         2 => amounts::short(draws::below(seed, 11, 1000000)),
         _ => reached,
     }

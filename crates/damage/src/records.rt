@@ -1,8 +1,10 @@
 // The bytes of an event record, and damage to them: kind 0 leaves them, 1 to 8 put them out of form.
+use crate::sizes::RECORD_BYTES;
+use crate::sizes::RECORD_ROOM;
 
 // Of the 21 bytes the first `length` are lent.
 pub struct Lent {
-    pub bytes: [u8; 21],
+    pub bytes: [u8; RECORD_ROOM],
     pub length: usize,
 }
 
@@ -33,7 +35,7 @@ pub fn written(kind: u8, count: u8, a: u32, b: u32) -> Lent {
     ];
     Lent {
         bytes: bytes,
-        length: 20,
+        length: RECORD_BYTES,
     }
 }
 
@@ -56,21 +58,21 @@ pub fn damaged(l: Lent, kind: u32, x: u64, y: u64) -> Lent {
     let changed = misformed(bytes, kind, x, y);
     Lent {
         bytes: changed,
-        length: 20,
+        length: RECORD_BYTES,
     }
 }
 
 fn length_of(kind: u32, y: u64) -> usize {
     match kind {
-        0 => 20,
-        1 => 19,
-        2 => 21,
+        0 => RECORD_BYTES,
+        1 => RECORD_BYTES - 1,
+        2 => RECORD_ROOM,
         _ => (y % 20) as usize,
     }
 }
 
 // Kind 0, a count above four, byte 2 or 3 not zero, an argument beyond the count not zero.
-fn misformed(bytes: [u8; 21], kind: u32, x: u64, y: u64) -> [u8; 21] {
+fn misformed(bytes: [u8; RECORD_ROOM], kind: u32, x: u64, y: u64) -> [u8; RECORD_ROOM] {
     let mut r = bytes;
     let more = 1 + (x % 255) as u8;
     let i = 12 + (y % 8) as usize;

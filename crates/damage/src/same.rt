@@ -1,144 +1,140 @@
-// Whether two books, states, tallies or buffers are the same in every field and every place of every array.
+// Whether two books, states, tallies or buffers are the same in every field and every place of every array. No comparison branches: each
+// branch would cost the check of the program more than the run of the rest costs.
+use crate::sizes::ARGUMENTS;
+use crate::sizes::BUFFER;
+use crate::sizes::CAPACITY;
+use crate::sizes::EXCLUSIONS;
+use crate::sizes::NAMES;
+use crate::sizes::POSITIONS;
+use crate::sizes::SYMBOLS;
+use crate::sizes::VARIABLES;
 use book::Book;
 use disjunct::Disjunct;
 use slot::Slot;
 use state::State;
 use table::Name;
-use table::Parameter;
 use table::Symbol;
 use tally::Tally;
 
-pub fn bytes(a: [u8; 64], b: [u8; 64]) -> bool {
+pub fn bytes(a: [u8; BUFFER], b: [u8; BUFFER]) -> bool {
+    let mut r = true;
     let mut i: usize = 0;
-    while i < 64 {
-        if a[i] != b[i] {
-            return false;
-        }
+    while i < BUFFER {
+        r = r & (a[i] == b[i]);
         i += 1;
     }
-    true
+    r
 }
 
 pub fn tallies(a: Tally, b: Tally) -> bool {
-    a.accepted == b.accepted && a.refused == b.refused && a.rows == b.rows
+    (a.accepted == b.accepted) & (a.refused == b.refused) & (a.rows == b.rows)
 }
 
-pub fn books(a: Book, b: Book) -> bool {
-    let names = a.names;
-    let other_names = b.names;
+// The numbers of two books.
+fn counts(a: Book, b: Book) -> bool {
+    (a.variables == b.variables)
+        & (a.symbols == b.symbols)
+        & (a.positions == b.positions)
+        & (a.begins == b.begins)
+        & (a.ends == b.ends)
+        & (a.empty == b.empty)
+}
+
+// The lists of two books, but for the names.
+fn lists(a: Book, b: Book) -> bool {
     let table = a.table;
     let other_table = b.table;
     let occurrences = a.occurrences;
     let other_occurrences = b.occurrences;
     let follows = a.follows;
     let other_follows = b.follows;
-    a.variables == b.variables
-        && a.symbols == b.symbols
-        && a.positions == b.positions
-        && a.begins == b.begins
-        && a.ends == b.ends
-        && a.empty == b.empty
-        && name_lists(names, other_names)
-        && tables(table, other_table)
-        && words(occurrences, other_occurrences)
-        && words(follows, other_follows)
+    tables(table, other_table)
+        & words(occurrences, other_occurrences)
+        & words(follows, other_follows)
 }
 
-fn name_lists(a: [Name; 20], b: [Name; 20]) -> bool {
+pub fn books(a: Book, b: Book) -> bool {
+    let names = a.names;
+    let other_names = b.names;
+    counts(a, b) & lists(a, b) & name_lists(names, other_names)
+}
+
+fn name_lists(a: [Name; NAMES], b: [Name; NAMES]) -> bool {
+    let mut r = true;
     let mut i: usize = 0;
-    while i < 20 {
+    while i < NAMES {
         let x = a[i];
         let y = b[i];
-        if x.start != y.start || x.size != y.size {
-            return false;
-        }
+        r = r & (x.start == y.start) & (x.size == y.size);
         i += 1;
     }
-    true
+    r
 }
 
-fn words(a: [u32; 31], b: [u32; 31]) -> bool {
+fn words(a: [u32; POSITIONS], b: [u32; POSITIONS]) -> bool {
+    let mut r = true;
     let mut i: usize = 0;
-    while i < 31 {
-        if a[i] != b[i] {
-            return false;
-        }
+    while i < POSITIONS {
+        r = r & (a[i] == b[i]);
         i += 1;
     }
-    true
+    r
 }
 
-fn tables(a: [Symbol; 16], b: [Symbol; 16]) -> bool {
+fn tables(a: [Symbol; SYMBOLS], b: [Symbol; SYMBOLS]) -> bool {
+    let mut r = true;
     let mut i: usize = 0;
-    while i < 16 {
+    while i < SYMBOLS {
         let x = a[i];
         let y = b[i];
-        if symbols(x, y) {
-            i += 1;
-        } else {
-            return false;
-        }
+        r = r & symbols(x, y);
+        i += 1;
     }
-    true
+    r
 }
 
 fn symbols(a: Symbol, b: Symbol) -> bool {
-    if a.kind != b.kind || a.count != b.count {
-        return false;
-    }
+    let mut r = (a.kind == b.kind) & (a.count == b.count);
     let mut i: usize = 0;
-    while i < 4 {
+    while i < ARGUMENTS {
         let x = a.parameters[i];
         let y = b.parameters[i];
-        if x.tag != y.tag || x.number != y.number {
-            return false;
-        }
+        r = r & (x.tag == y.tag) & (x.number == y.number);
         i += 1;
     }
-    true
+    r
 }
 
 pub fn states(a: State, b: State) -> bool {
-    if a.number != b.number || a.count != b.count {
-        return false;
-    }
+    let mut r = (a.number == b.number) & (a.count == b.count);
     let mut i: usize = 0;
-    while i < 128 {
+    while i < CAPACITY {
         let d = a.pool[i];
         let e = b.pool[i];
-        if a.positions[i] == b.positions[i] && disjuncts(d, e) {
-            i += 1;
-        } else {
-            return false;
-        }
+        r = r & (a.positions[i] == b.positions[i]) & disjuncts(d, e);
+        i += 1;
     }
-    true
+    r
 }
 
 fn disjuncts(a: Disjunct, b: Disjunct) -> bool {
+    let mut r = true;
     let mut i: usize = 0;
-    while i < 4 {
+    while i < VARIABLES {
         let s = a.vars[i];
         let t = b.vars[i];
-        if slots(s, t) {
-            i += 1;
-        } else {
-            return false;
-        }
+        r = r & slots(s, t);
+        i += 1;
     }
-    true
+    r
 }
 
 fn slots(a: Slot, b: Slot) -> bool {
-    if a.bound != b.bound || a.value != b.value || a.count != b.count {
-        return false;
-    }
+    let mut r = (a.bound == b.bound) & (a.value == b.value) & (a.count == b.count);
     let mut i: usize = 0;
-    while i < 6 {
-        if a.excluded[i] != b.excluded[i] {
-            return false;
-        }
+    while i < EXCLUSIONS {
+        r = r & (a.excluded[i] == b.excluded[i]);
         i += 1;
     }
-    true
+    r
 }

@@ -1,6 +1,10 @@
 // The states that are lent, from what they hold at position 1; and damage to one that holds two disjuncts.
 // Damage of kind 0 leaves it, 1 to 10 take it out of what document 01 calls sound.
 use crate::amounts;
+use crate::sizes::CAPACITY;
+use crate::sizes::EXCLUSIONS;
+use crate::sizes::MOST_EVENTS;
+use crate::sizes::VARIABLES;
 use disjunct::Disjunct;
 use slot::Slot;
 use state::State;
@@ -13,7 +17,7 @@ pub struct Held {
     pub second: Disjunct,
 }
 
-fn slot(bound: bool, value: u32, count: usize, excluded: [u32; 6]) -> Slot {
+fn slot(bound: bool, value: u32, count: usize, excluded: [u32; EXCLUSIONS]) -> Slot {
     Slot {
         bound: bound,
         value: value,
@@ -23,24 +27,28 @@ fn slot(bound: bool, value: u32, count: usize, excluded: [u32; 6]) -> Slot {
 }
 
 // `d` has the value, `s` is free without the first n of xs, the further variables are free.
-pub fn partial(value: u32, n: usize, xs: [u32; 6]) -> Disjunct {
-    let d = slot(true, value, 0, [0u32; 6]);
+pub fn partial(value: u32, n: usize, xs: [u32; EXCLUSIONS]) -> Disjunct {
+    let d = slot(true, value, 0, [0u32; EXCLUSIONS]);
     let s = slot(false, 0, n, xs);
-    let f = slot(false, 0, 0, [0u32; 6]);
+    let f = slot(false, 0, 0, [0u32; EXCLUSIONS]);
     Disjunct { vars: [d, s, f, f] }
 }
 
 // The disjunct that says nothing.
 pub fn free() -> Disjunct {
-    let f = slot(false, 0, 0, [0u32; 6]);
-    Disjunct { vars: [f; 4] }
+    let f = slot(false, 0, 0, [0u32; EXCLUSIONS]);
+    Disjunct {
+        vars: [f; VARIABLES],
+    }
 }
 
 // All that a place can have, filled with x.
 fn filled(x: u64) -> Disjunct {
     let short = amounts::short(x);
-    let f = slot(x % 2 == 1, short, x as usize, [short; 6]);
-    Disjunct { vars: [f; 4] }
+    let f = slot(x % 2 == 1, short, x as usize, [short; EXCLUSIONS]);
+    Disjunct {
+        vars: [f; VARIABLES],
+    }
 }
 
 // What is held stands first; the places behind it are as told.
@@ -50,8 +58,8 @@ fn placed(h: Held, position: u32, other: Disjunct) -> State {
     let mut r = State {
         number: h.number,
         count: h.count,
-        positions: [position; 128],
-        pool: [other; 128],
+        positions: [position; CAPACITY],
+        pool: [other; CAPACITY],
     };
     if 0 < h.count {
         r.positions[0] = 1;
@@ -106,10 +114,10 @@ fn uncounted(s: Slot, x: u32) -> Slot {
 }
 
 // The numbers from the n-th on replaced by x.
-fn beyond(xs: [u32; 6], n: usize, x: u32) -> [u32; 6] {
+fn beyond(xs: [u32; EXCLUSIONS], n: usize, x: u32) -> [u32; EXCLUSIONS] {
     let mut r = xs;
     let mut i = n;
-    while i < 6 {
+    while i < EXCLUSIONS {
         r[i] = x;
         i += 1;
     }
@@ -119,7 +127,7 @@ fn beyond(xs: [u32; 6], n: usize, x: u32) -> [u32; 6] {
 // A disjunct more, or another one, at a place; one event later.
 pub fn changed(s: State, at: usize, d: Disjunct) -> State {
     let mut r = s;
-    if at < 128 {
+    if at < CAPACITY {
         r.positions[at] = 1;
         r.pool[at] = d;
         if s.count <= at {
@@ -137,10 +145,10 @@ pub fn damaged(s: State, kind: u32, x: u64, y: u64) -> State {
     match kind {
         0 => {}
         1 => {
-            r.number = amounts::above_short(1000001, x);
+            r.number = amounts::above_short(MOST_EVENTS + 1, x);
         }
         2 => {
-            r.count = amounts::above(129, x);
+            r.count = amounts::above(CAPACITY + 1, x);
         }
         3 => {
             r.positions[i] = 0;
@@ -166,7 +174,7 @@ pub fn damaged(s: State, kind: u32, x: u64, y: u64) -> State {
 // The same disjunct in all that is judged.
 fn twin(d: Disjunct, x: u64) -> Disjunct {
     let mut r = d;
-    r.vars[3] = slot(true, amounts::short(x), x as usize, [0u32; 6]);
+    r.vars[3] = slot(true, amounts::short(x), x as usize, [0u32; EXCLUSIONS]);
     r
 }
 
@@ -177,7 +185,12 @@ fn misheld(d: Disjunct, kind: u32, x: u64) -> Disjunct {
     let mut r = d;
     match kind {
         7 => {
-            r.vars[1] = slot(false, 0, amounts::above(7, x), [1u32, 2, 3, 4, 5, 6]);
+            r.vars[1] = slot(
+                false,
+                0,
+                amounts::above(EXCLUSIONS + 1, x),
+                [1u32, 2, 3, 4, 5, 6],
+            );
         }
         8 => {
             r.vars[1] = slot(false, 0, 2, [9u32, 7, 0, 0, 0, 0]);

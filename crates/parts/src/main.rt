@@ -6,6 +6,11 @@ use disjunct::Disjunct;
 ghost use Prim.Native.Nat.{_<_};
 ghost use Rattle.constraint.specs.Constraints.{Ready};
 
+// The words of a set of 128 disjuncts, 28 to each, and of 2,064 rows, four values to each.
+const SET_WORDS: usize = 3584;
+
+const ROWS_WORDS: usize = 8256;
+
 struct Score {
     right: u64,
     wrong: u64,
@@ -101,7 +106,7 @@ fn meetings(s: Score) -> Score {
 }
 
 fn insertions(s: Score) -> Score {
-    let mut words = [0u32; 3584];
+    let mut words = [0u32; SET_WORDS];
     let d = bound();
     let n = sets::insert(&mut words, 0, d);
     let t = s.with(n == 1);
@@ -120,8 +125,8 @@ fn only_excludes(d: Disjunct, v: usize, x: u32) -> bool
 
 // The free disjunct past the constraint: one disjunct for each variable, the one without exclusions at variable 0 first.
 fn skips(s: Score) -> Score {
-    let mut from = [0u32; 3584];
-    let mut out = [0u32; 3584];
+    let mut from = [0u32; SET_WORDS];
+    let mut out = [0u32; SET_WORDS];
     sets::put(&mut from, 0, Disjunct::free());
     let n = skip::skip_by(&from, 1, demanding(1, 7), &mut out);
     let mut t = s.with(n == 2);
@@ -131,8 +136,8 @@ fn skips(s: Score) -> Score {
 
 // The met disjunct past the constraint: none.
 fn skips_none(s: Score) -> Score {
-    let mut from = [0u32; 3584];
-    let mut out = [0u32; 3584];
+    let mut from = [0u32; SET_WORDS];
+    let mut out = [0u32; SET_WORDS];
     sets::put(&mut from, 0, bound());
     let n = skip::skip_by(&from, 1, demanding(1, 7), &mut out);
     s.with(n == 0)
@@ -155,7 +160,7 @@ fn with_bytes(s: Score, got: &[u8], want: &[u8]) -> Score {
 
 // One row from place 3 on: event number 5, two variables; the bytes before and after stay 9.
 fn written(s: Score) -> Score {
-    let mut words = [0u32; 8256];
+    let mut words = [0u32; ROWS_WORDS];
     let n = rows::insert_row(&mut words, 0, [1, 7, 0, 0]);
     let t = s.with(n == 1);
     let mut buffer = [9u8; 40];

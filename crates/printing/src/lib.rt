@@ -6,6 +6,17 @@ use state::State;
 use tally::Tally;
 ghost use Prim.Native.Nat.{_<_, _≤_};
 
+// A row and an event record, a piece of the input, how much of the output is gathered before it is written, and the longest number.
+const ROW_BYTES: usize = 24;
+
+const RECORD_BYTES: usize = 20;
+
+const PIECE: usize = 64000;
+
+const GATHERED: usize = 65000;
+
+const DIGITS: usize = 20;
+
 // What goes from piece to piece of the input, beside the buffers: the state, the tally, how many records there were, and how
 // many bytes of the output are gathered.
 struct Run {
@@ -39,7 +50,7 @@ fn flush(out: &[u8], at: usize) {
 
 // Writes what is gathered where less than a line's room is left.
 fn room(out: &[u8], at: usize) -> usize {
-    if at <= 65000 {
+    if at <= GATHERED {
         return at;
     }
     flush(out, at);
@@ -68,7 +79,7 @@ fn put_all(out: &mut [u8], at: usize, bytes: &[u8]) -> usize {
 
 // A number in decimal.
 fn put_number(out: &mut [u8], at: usize, x: u64) -> usize {
-    let mut digits = [0u8; 20];
+    let mut digits = [0u8; DIGITS];
     let n = io::decimal(x, &mut digits);
     put_all(out, at, &digits[..n])
 }
@@ -118,12 +129,12 @@ fn put_row(out: &mut [u8], at: usize, row: &[u8], variables: usize) -> usize {
 
 // The rows of a record, 24 bytes to each.
 fn put_rows(out: &mut [u8], at: usize, rows: &[u8], count: usize, variables: usize) -> usize {
-    let n = least(count, rows.len() / 24);
+    let n = least(count, rows.len() / ROW_BYTES);
     let mut k = at;
     let mut i: usize = 0;
     while i < n {
-        let p = i * 24;
-        k = put_row(out, k, &rows[p..p + 24], variables);
+        let p = i * ROW_BYTES;
+        k = put_row(out, k, &rows[p..p + ROW_BYTES], variables);
         i += 1;
     }
     k
@@ -145,7 +156,11 @@ fn record_end(i: usize, n: usize) -> usize
     requires { ⌜ i < n ⌝ }
     ensures { λ r. ⌜ (i < r) × (r ≤ n) ⌝ }
 {
-    if n - i < 20 { n } else { i + 20 }
+    if n - i < RECORD_BYTES {
+        n
+    } else {
+        i + RECORD_BYTES
+    }
 }
 
 // The records of a piece of the input, a last short one too: for each its line and its rows.
@@ -177,7 +192,7 @@ fn take_all(book: Book, run: Run, piece: &[u8], rows: &mut [u8], out: &mut [u8])
 // All records of standard input, in pieces of 64,000 bytes. A proved loop has to end, and nothing says that the input does, so the
 // pieces are counted down, from a number that no run uses up.
 fn list(book: Book) {
-    let mut piece_space = [0u8; 64000];
+    let mut piece_space = [0u8; PIECE];
     let mut rows_space = io::large_buffer();
     let mut out_space = io::large_buffer();
     let piece: &mut [u8] = &mut piece_space;

@@ -1,4 +1,4 @@
--- `damage::call` is safe and ends: the parts that are lent are inside the record and the buffer.
+-- `damage::call` is safe: the parts that are lent are inside the record and the buffer.
 use mathlib.Core.Path.{_≡_, sym}
 use native.Mathlib.Omega.{arith}
 use lib.ListN.{length}
@@ -7,21 +7,27 @@ use borrow.Author.Needs.{needs}
 use Rattle.damage.proofs.call.Statement.{statement}
 use Rattle.damage.proofs.call.Tie as tie
 
+at-most-requires : tie.Need-at-most-requires
+at-most-requires c κs = search needs
+
+at-most-requires-2 : tie.Need-at-most-requires-2
+at-most-requires-2 c κs = search needs
+
 array-share-prefix-bytes : tie.Need-array-share-prefix-bytes
 array-share-prefix-bytes c =
-    let l : length (c .before .before .before .args .l .bytes) ≡ 21 = search needs in
+    let l : length (c .before .before .before .before .args .l .bytes) ≡ 21 = search needs in
     omega arith
 
-slice-aggregate-part : tie.Need-slice-aggregate-part
-slice-aggregate-part c =
-    let l : length (c .before .before .before .before .args .l .bytes) ≡ 21 = search needs in
+slice-aggregate-event : tie.Need-slice-aggregate-event
+slice-aggregate-event c =
+    let l : length (c .before .before .before .before .before .args .l .bytes) ≡ 21 = search needs in
     sym (length-take-le _ _ (omega arith))
 
 slice-relend-prefix-event : tie.Need-slice-relend-prefix-event
 slice-relend-prefix-event c = search needs
 
-slice-aggregate-event : tie.Need-slice-aggregate-event
-slice-aggregate-event c = sym (length-take-le _ _ (omega arith))
+slice-aggregate-event-2 : tie.Need-slice-aggregate-event-2
+slice-aggregate-event-2 c = sym (length-take-le _ _ (omega arith))
 
 event-requires : tie.Need-event-requires
 event-requires c κs = search needs
@@ -32,30 +38,16 @@ same-length c = search needs
 returns : tie.Need-returns
 returns c = search needs
 
-slice-aggregate-event-2 : tie.Need-slice-aggregate-event-2
-slice-aggregate-event-2 c = search needs
-
-event-requires-2 : tie.Need-event-requires-2
-event-requires-2 c κs = search needs
-
-same-length-2 : tie.Need-same-length-2
-same-length-2 c = search needs
-
-returns-2 : tie.Need-returns-2
-returns-2 c = search needs
-
 pub call-spec : {M : Type 1} → statement M
 call-spec =
     tie.close
     (tie.spec
+    at-most-requires
+    at-most-requires-2
     array-share-prefix-bytes
-    slice-aggregate-part
-    slice-relend-prefix-event
     slice-aggregate-event
+    slice-relend-prefix-event
+    slice-aggregate-event-2
     event-requires
     same-length
-    returns
-    slice-aggregate-event-2
-    event-requires-2
-    same-length-2
-    returns-2)
+    returns)

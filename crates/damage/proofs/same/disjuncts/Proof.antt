@@ -1,20 +1,17 @@
--- `damage::same::disjuncts` is safe and ends: the index is counted up to 4.
-use Prim.Native.Nat.{_≤_, _-_}
-use mathlib.Core.Path.{_≡_}
-use lib.ListN.{length}
-use Rattle.laws.proofs.Arrays.{map-length}
+-- `damage::same::disjuncts` is safe and ends: the turns are counted.
+use Prim.Native.Nat.{_-_, _≤_}
 use borrow.Author.Needs.{needs}
 use Rattle.damage.proofs.same.disjuncts.Statement.{statement}
 use Rattle.damage.proofs.same.disjuncts.Tie as tie
 
 abbrev Inv-loop : tie.InvT-loop
-Inv-loop a b i₀ i = (i ≤ 4) × (length (a .vars) ≡ 4) × (length (b .vars) ≡ 4)
+Inv-loop a b r₀ i₀ r i = i ≤ 4
 
 abbrev μ-loop : tie.MeasureT-loop
-μ-loop a b i₀ i = 4 - i
+μ-loop a b r₀ i₀ r i = 4 - i
 
 loop-holds : tie.Need-loop-holds Inv-loop μ-loop
-loop-holds c = search (needs, map-length)
+loop-holds c = search needs
 
 mul-s : tie.Need-mul-s Inv-loop μ-loop
 mul-s c = search needs
@@ -43,9 +40,6 @@ loop-again c = search needs
 returns : tie.Need-returns Inv-loop μ-loop
 returns c = search needs
 
-returns-2 : tie.Need-returns-2 Inv-loop μ-loop
-returns-2 c = search needs
-
 pub disjuncts-spec : {M : Type 1} → statement M
 disjuncts-spec =
     tie.close
@@ -61,5 +55,4 @@ disjuncts-spec =
     add-i
     loop-less
     loop-again
-    returns
-    returns-2)
+    returns)

@@ -1,16 +1,14 @@
--- `damage::same::name_lists` is safe and ends: the index is counted up to 20.
-use Prim.Native.Nat.{_≤_, _-_}
-use mathlib.Core.Path.{_≡_}
-use lib.ListN.{length}
+-- `damage::same::name_lists` is safe and ends: the turns are counted.
+use Prim.Native.Nat.{_-_, _≤_}
 use borrow.Author.Needs.{needs}
 use Rattle.damage.proofs.same.name_lists.Statement.{statement}
 use Rattle.damage.proofs.same.name_lists.Tie as tie
 
 abbrev Inv-loop : tie.InvT-loop
-Inv-loop a b i₀ i = (i ≤ 20) × (length a ≡ 20) × (length b ≡ 20)
+Inv-loop a b r₀ i₀ r i = i ≤ 20
 
 abbrev μ-loop : tie.MeasureT-loop
-μ-loop a b i₀ i = 20 - i
+μ-loop a b r₀ i₀ r i = 20 - i
 
 loop-holds : tie.Need-loop-holds Inv-loop μ-loop
 loop-holds c = search needs
@@ -27,9 +25,6 @@ mul-y c = search needs
 array-copy-out-y : tie.Need-array-copy-out-y Inv-loop μ-loop
 array-copy-out-y c = search needs
 
-returns : tie.Need-returns Inv-loop μ-loop
-returns c = search needs
-
 add-i : tie.Need-add-i Inv-loop μ-loop
 add-i c = search needs
 
@@ -39,8 +34,8 @@ loop-less c = search needs
 loop-again : tie.Need-loop-again Inv-loop μ-loop
 loop-again c = search needs
 
-returns-2 : tie.Need-returns-2 Inv-loop μ-loop
-returns-2 c = search needs
+returns : tie.Need-returns Inv-loop μ-loop
+returns c = search needs
 
 pub name-lists-spec : {M : Type 1} → statement M
 name-lists-spec =
@@ -53,8 +48,7 @@ name-lists-spec =
     array-copy-out-x
     mul-y
     array-copy-out-y
-    returns
     add-i
     loop-less
     loop-again
-    returns-2)
+    returns)

@@ -1,23 +1,17 @@
--- `damage::same::states` is safe and ends: the index is counted up to 128.
-use Prim.Native.Nat.{_≤_, _-_}
-use mathlib.Core.Path.{_≡_}
-use lib.ListN.{length}
-use Rattle.laws.proofs.Arrays.{map-length}
+-- `damage::same::states` is safe and ends: the turns are counted.
+use Prim.Native.Nat.{_-_, _≤_}
 use borrow.Author.Needs.{needs}
 use Rattle.damage.proofs.same.states.Statement.{statement}
 use Rattle.damage.proofs.same.states.Tie as tie
 
 abbrev Inv-loop : tie.InvT-loop
-Inv-loop a b i₀ i = (i ≤ 128) × (length (a .positions) ≡ 128) × (length (b .positions) ≡ 128) × (length (a .pool) ≡ 128) × (length (b .pool) ≡ 128)
+Inv-loop a b r₀ i₀ r i = i ≤ 128
 
 abbrev μ-loop : tie.MeasureT-loop
-μ-loop a b i₀ i = 128 - i
-
-returns : tie.Need-returns Inv-loop μ-loop
-returns c = search needs
+μ-loop a b r₀ i₀ r i = 128 - i
 
 loop-holds : tie.Need-loop-holds Inv-loop μ-loop
-loop-holds c = search (needs, map-length)
+loop-holds c = search needs
 
 mul-d : tie.Need-mul-d Inv-loop μ-loop
 mul-d c = search needs
@@ -31,17 +25,17 @@ mul-e c = search needs
 element-copy-out-e : tie.Need-element-copy-out-e Inv-loop μ-loop
 element-copy-out-e c = search needs
 
-mul-if3 : tie.Need-mul-if3 Inv-loop μ-loop
-mul-if3 c = search needs
+mul-r : tie.Need-mul-r Inv-loop μ-loop
+mul-r c = search needs
 
-element-copy-out-if3 : tie.Need-element-copy-out-if3 Inv-loop μ-loop
-element-copy-out-if3 c = search needs
+element-copy-out-r : tie.Need-element-copy-out-r Inv-loop μ-loop
+element-copy-out-r c = search needs
 
-mul-if3-2 : tie.Need-mul-if3-2 Inv-loop μ-loop
-mul-if3-2 c = search needs
+mul-r-2 : tie.Need-mul-r-2 Inv-loop μ-loop
+mul-r-2 c = search needs
 
-element-copy-out-if3-2 : tie.Need-element-copy-out-if3-2 Inv-loop μ-loop
-element-copy-out-if3-2 c = search needs
+element-copy-out-r-2 : tie.Need-element-copy-out-r-2 Inv-loop μ-loop
+element-copy-out-r-2 c = search needs
 
 disjuncts-requires : tie.Need-disjuncts-requires Inv-loop μ-loop
 disjuncts-requires c κs = search needs
@@ -55,11 +49,8 @@ loop-less c = search needs
 loop-again : tie.Need-loop-again Inv-loop μ-loop
 loop-again c = search needs
 
-returns-2 : tie.Need-returns-2 Inv-loop μ-loop
-returns-2 c = search needs
-
-returns-3 : tie.Need-returns-3 Inv-loop μ-loop
-returns-3 c = search needs
+returns : tie.Need-returns Inv-loop μ-loop
+returns c = search needs
 
 pub states-spec : {M : Type 1} → statement M
 states-spec =
@@ -67,19 +58,17 @@ states-spec =
     (tie.spec
     Inv-loop
     μ-loop
-    returns
     loop-holds
     mul-d
     element-copy-out-d
     mul-e
     element-copy-out-e
-    mul-if3
-    element-copy-out-if3
-    mul-if3-2
-    element-copy-out-if3-2
+    mul-r
+    element-copy-out-r
+    mul-r-2
+    element-copy-out-r-2
     disjuncts-requires
     add-i
     loop-less
     loop-again
-    returns-2
-    returns-3)
+    returns)

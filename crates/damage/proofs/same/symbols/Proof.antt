@@ -1,23 +1,17 @@
--- `damage::same::symbols` is safe and ends: the index is counted up to 4.
-use Prim.Native.Nat.{_≤_, _-_}
-use mathlib.Core.Path.{_≡_}
-use lib.ListN.{length}
-use Rattle.laws.proofs.Arrays.{map-length}
+-- `damage::same::symbols` is safe and ends: the turns are counted.
+use Prim.Native.Nat.{_-_, _≤_}
 use borrow.Author.Needs.{needs}
 use Rattle.damage.proofs.same.symbols.Statement.{statement}
 use Rattle.damage.proofs.same.symbols.Tie as tie
 
 abbrev Inv-loop : tie.InvT-loop
-Inv-loop a b i₀ i = (i ≤ 4) × (length (a .parameters) ≡ 4) × (length (b .parameters) ≡ 4)
+Inv-loop a b r₀ i₀ r i = i ≤ 4
 
 abbrev μ-loop : tie.MeasureT-loop
-μ-loop a b i₀ i = 4 - i
-
-returns : tie.Need-returns Inv-loop μ-loop
-returns c = search needs
+μ-loop a b r₀ i₀ r i = 4 - i
 
 loop-holds : tie.Need-loop-holds Inv-loop μ-loop
-loop-holds c = search (needs, map-length)
+loop-holds c = search needs
 
 mul-x : tie.Need-mul-x Inv-loop μ-loop
 mul-x c = search needs
@@ -31,9 +25,6 @@ mul-y c = search needs
 element-copy-out-y : tie.Need-element-copy-out-y Inv-loop μ-loop
 element-copy-out-y c = search needs
 
-returns-2 : tie.Need-returns-2 Inv-loop μ-loop
-returns-2 c = search needs
-
 add-i : tie.Need-add-i Inv-loop μ-loop
 add-i c = search needs
 
@@ -43,8 +34,8 @@ loop-less c = search needs
 loop-again : tie.Need-loop-again Inv-loop μ-loop
 loop-again c = search needs
 
-returns-3 : tie.Need-returns-3 Inv-loop μ-loop
-returns-3 c = search needs
+returns : tie.Need-returns Inv-loop μ-loop
+returns c = search needs
 
 pub symbols-spec : {M : Type 1} → statement M
 symbols-spec =
@@ -52,14 +43,12 @@ symbols-spec =
     (tie.spec
     Inv-loop
     μ-loop
-    returns
     loop-holds
     mul-x
     element-copy-out-x
     mul-y
     element-copy-out-y
-    returns-2
     add-i
     loop-less
     loop-again
-    returns-3)
+    returns)

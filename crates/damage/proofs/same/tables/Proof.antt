@@ -1,16 +1,14 @@
--- `damage::same::tables` is safe and ends: the index is counted up to 16.
-use Prim.Native.Nat.{_≤_, _-_}
-use mathlib.Core.Path.{_≡_}
-use lib.ListN.{length}
+-- `damage::same::tables` is safe and ends: the turns are counted.
+use Prim.Native.Nat.{_-_, _≤_}
 use borrow.Author.Needs.{needs}
 use Rattle.damage.proofs.same.tables.Statement.{statement}
 use Rattle.damage.proofs.same.tables.Tie as tie
 
 abbrev Inv-loop : tie.InvT-loop
-Inv-loop a b i₀ i = (i ≤ 16) × (length a ≡ 16) × (length b ≡ 16)
+Inv-loop a b r₀ i₀ r i = i ≤ 16
 
 abbrev μ-loop : tie.MeasureT-loop
-μ-loop a b i₀ i = 16 - i
+μ-loop a b r₀ i₀ r i = 16 - i
 
 loop-holds : tie.Need-loop-holds Inv-loop μ-loop
 loop-holds c = search needs
@@ -42,9 +40,6 @@ loop-again c = search needs
 returns : tie.Need-returns Inv-loop μ-loop
 returns c = search needs
 
-returns-2 : tie.Need-returns-2 Inv-loop μ-loop
-returns-2 c = search needs
-
 pub tables-spec : {M : Type 1} → statement M
 tables-spec =
     tie.close
@@ -60,5 +55,4 @@ tables-spec =
     add-i
     loop-less
     loop-again
-    returns
-    returns-2)
+    returns)

@@ -1,34 +1,29 @@
--- `damage::same::words` is safe and ends: the index is counted up to 31.
-use Prim.Native.Nat.{_≤_, _-_}
-use mathlib.Core.Path.{_≡_}
-use lib.ListN.{length}
+-- `damage::same::words` is safe and ends: the turns are counted.
+use Prim.Native.Nat.{_-_, _≤_}
 use borrow.Author.Needs.{needs}
 use Rattle.damage.proofs.same.words.Statement.{statement}
 use Rattle.damage.proofs.same.words.Tie as tie
 
 abbrev Inv-loop : tie.InvT-loop
-Inv-loop a b i₀ i = (i ≤ 31) × (length a ≡ 31) × (length b ≡ 31)
+Inv-loop a b r₀ i₀ r i = i ≤ 31
 
 abbrev μ-loop : tie.MeasureT-loop
-μ-loop a b i₀ i = 31 - i
+μ-loop a b r₀ i₀ r i = 31 - i
 
 loop-holds : tie.Need-loop-holds Inv-loop μ-loop
 loop-holds c = search needs
 
-mul-if1 : tie.Need-mul-if1 Inv-loop μ-loop
-mul-if1 c = search needs
+mul-r : tie.Need-mul-r Inv-loop μ-loop
+mul-r c = search needs
 
-array-read-if1 : tie.Need-array-read-if1 Inv-loop μ-loop
-array-read-if1 c = search needs
+array-read-r : tie.Need-array-read-r Inv-loop μ-loop
+array-read-r c = search needs
 
-mul-if1-2 : tie.Need-mul-if1-2 Inv-loop μ-loop
-mul-if1-2 c = search needs
+mul-r-2 : tie.Need-mul-r-2 Inv-loop μ-loop
+mul-r-2 c = search needs
 
-array-read-if1-2 : tie.Need-array-read-if1-2 Inv-loop μ-loop
-array-read-if1-2 c = search needs
-
-returns : tie.Need-returns Inv-loop μ-loop
-returns c = search needs
+array-read-r-2 : tie.Need-array-read-r-2 Inv-loop μ-loop
+array-read-r-2 c = search needs
 
 add-i : tie.Need-add-i Inv-loop μ-loop
 add-i c = search needs
@@ -39,8 +34,8 @@ loop-less c = search needs
 loop-again : tie.Need-loop-again Inv-loop μ-loop
 loop-again c = search needs
 
-returns-2 : tie.Need-returns-2 Inv-loop μ-loop
-returns-2 c = search needs
+returns : tie.Need-returns Inv-loop μ-loop
+returns c = search needs
 
 pub words-spec : {M : Type 1} → statement M
 words-spec =
@@ -49,12 +44,11 @@ words-spec =
     Inv-loop
     μ-loop
     loop-holds
-    mul-if1
-    array-read-if1
-    mul-if1-2
-    array-read-if1-2
-    returns
+    mul-r
+    array-read-r
+    mul-r-2
+    array-read-r-2
     add-i
     loop-less
     loop-again
-    returns-2)
+    returns)
