@@ -34,7 +34,7 @@ use Rattle.calls.specs.Calls.{freshState, rowsBy, stateBy, leavesFreeBy, roomBy
 use Rattle.calls.specs.Answers.{numberOf}
 use Rattle.calls.specs.Runs.{lentAt, make, allBytes}
 use Rattle.book.proofs.Bench as Bench
-use Rattle.fault.proofs.Refused.{refused}
+use Rattle.least.proofs.Refused.{refused}
 use Rattle.calls.proofs.Answered.{answered}
 use Rattle.calls.proofs.Checks.{first-failing}
 use Rattle.calls.proofs.Listed.{listed}

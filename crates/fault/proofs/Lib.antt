@@ -1,22 +1,2 @@
--- The theorem `refused` (Refused): the reader answers the least fault of a text. Stands (tokens that begin a pattern), Spots (places),
--- Sites (which faults can stand at a place). The lines before the pattern: HeaderPrefix (the prefixes that the reader accepts, and where it
--- may stop), Gaps and HeaderCourse (its course reads them), WordLaws and WordFaults (what may be wrong with a word), HeaderFacts (what is
--- known where a prefix ends), HeaderFaults. The pattern, likewise: PatternPrefix, PatternCourse, TokenPlaces (tokens by their places),
--- PatternSites (which faults can stand on its line), PatternFacts, PatternFaults.
-pub mod Stands
-pub mod Spots
-pub mod Sites
-pub mod HeaderPrefix
-pub mod Gaps
-pub mod HeaderCourse
-pub mod WordLaws
-pub mod WordFaults
-pub mod HeaderFacts
-pub mod HeaderFaults
-pub mod PatternPrefix
-pub mod PatternCourse
-pub mod TokenPlaces
-pub mod PatternSites
-pub mod PatternFacts
-pub mod PatternFaults
-pub mod Refused
+-- Samples: texts with faults by their rules, and small laws of the definitions. The theorem over them, `refused`, is in the crate least.
+pub mod Samples

@@ -21,18 +21,18 @@ use Rattle.form.specs.Lines.{indexOf}
 use Rattle.form.proofs.Complete.{isPostfix}
 use Rattle.form.proofs.Scans.{spacesEnd-le, spacesEnd-ge, nameEnd-le, nameEnd-ge}
 use Rattle.form.proofs.TokenScan.{inside-of}
 use Rattle.fault.specs.Places.{spotAt, On, TokenAt, before, nameAt, tokenAt, isName, isSign, occurrences, signs, Begins}
 use Rattle.fault.specs.Fault
 use Rattle.fault.specs.Fault.{TokenFault, Fault}
-use Rattle.fault.proofs.Stands.{Stand, on, stand, stands, stand-append, begins-stands}
-use Rattle.fault.proofs.Spots.{word-spot}
-use Rattle.fault.proofs.Sites.{Clean, match-end}
-use Rattle.fault.proofs.HeaderPrefix.{Ready}
-use Rattle.fault.proofs.PatternPrefix
-use Rattle.fault.proofs.PatternPrefix.{PatternPrefix}
-use Rattle.fault.proofs.TokenPlaces.{Apart, spaces-bytes, spaces-tokens, spaces-apart}
-use Rattle.fault.proofs.TokenPlaces.{name-bytes, name-tokens, name-apart, name-inside, sign-tokens, sign-apart}
-use Rattle.fault.proofs.PatternSites.{Here, noSpace, token, noToken, noLF, same-line, line-fault, clean-over}
+use Rattle.least.proofs.Stands.{Stand, on, stand, stands, stand-append, begins-stands}
+use Rattle.least.proofs.Spots.{word-spot}
+use Rattle.least.proofs.Sites.{Clean, match-end}
+use Rattle.least.proofs.HeaderPrefix.{Ready}
+use Rattle.least.proofs.PatternPrefix
+use Rattle.least.proofs.PatternPrefix.{PatternPrefix}
+use Rattle.least.proofs.TokenPlaces.{Apart, spaces-bytes, spaces-tokens, spaces-apart}
+use Rattle.least.proofs.TokenPlaces.{name-bytes, name-tokens, name-apart, name-inside, sign-tokens, sign-apart}
+use Rattle.least.proofs.PatternSites.{Here, noSpace, token, noToken, noLF, same-line, line-fault, clean-over}
 
 -- one token more
 stands-none : stands [] ≡ on 0 false

@@ -22,13 +22,13 @@ use Rattle.form.proofs.Outcomes.{Whole, known, patternOf, bindsAll, outcome}
 use Rattle.book.specs.Answers.{numberOf, placeOf}
 use Rattle.book.specs.Books.{reading}
 use Rattle.book.proofs.Bench as Bench
 use Rattle.fault.specs.Fault.{Fault, Least, NoFault}
 use Rattle.fault.specs.Rules.{AdmitsEmpty, LeavesUnbound, Rules}
-use Rattle.fault.proofs.HeaderPrefix.{Ready}
-use Rattle.fault.proofs.HeaderCourse.{lines-stop, lines-matched}
-use Rattle.fault.proofs.HeaderFaults.{header-stop-least, matched-ready}
-use Rattle.fault.proofs.PatternCourse.{pattern-whole, pattern-stopped}
-use Rattle.fault.proofs.PatternFaults.{space-least, stopped-least, after-least, finished-none}
+use Rattle.least.proofs.HeaderPrefix.{Ready}
+use Rattle.least.proofs.HeaderCourse.{lines-stop, lines-matched}
+use Rattle.least.proofs.HeaderFaults.{header-stop-least, matched-ready}
+use Rattle.least.proofs.PatternCourse.{pattern-whole, pattern-stopped}
+use Rattle.least.proofs.PatternFaults.{space-least, stopped-least, after-least, finished-none}
 
 module _ (s : Bytes) (bytes : isBytes s ≡ true) where
   -- the place behind `match`, and what is known there

@@ -16,17 +16,17 @@ use Rattle.form.specs.Scan.{at, pastEnd, isSpace, spacesEnd}
 use Rattle.form.proofs.Scans.{at-end}
 use Rattle.form.proofs.Scans as Scans
 use Rattle.form.proofs.TokenScan.{inside-of, here-space}
 use Rattle.fault.specs.Places.{TokenAt, before, nameAt, tokenAt, Begins}
 use Rattle.fault.specs.Fault
 use Rattle.fault.specs.Fault.{SymbolNamed, TokenFault, Fault, Least, NoFault}
-use Rattle.fault.proofs.Stands.{stuck, on, lessOpen, signed, stand, stands, begins-stands, pattern-stands}
-use Rattle.fault.proofs.Sites.{Clean, least-of, fault-number, fault-inside}
-use Rattle.fault.proofs.HeaderPrefix.{Ready}
-use Rattle.fault.proofs.Gaps.{past-end}
-use Rattle.fault.proofs.PatternPrefix
-use Rattle.fault.proofs.PatternPrefix.{Blocked, PatternStop, Stopped, Finished}
-use Rattle.fault.proofs.PatternSites.{Here, noSpace, token, noToken, noLF, next-line, line-fault, token-fault, end-fault}
-use Rattle.fault.proofs.PatternFacts.{PatternFacts, pattern-facts, facts-spaces, stands-more, name-length}
+use Rattle.least.proofs.Stands.{stuck, on, lessOpen, signed, stand, stands, begins-stands, pattern-stands}
+use Rattle.least.proofs.Sites.{Clean, least-of, fault-number, fault-inside}
+use Rattle.least.proofs.HeaderPrefix.{Ready}
+use Rattle.least.proofs.Gaps.{past-end}
+use Rattle.least.proofs.PatternPrefix
+use Rattle.least.proofs.PatternPrefix.{Blocked, PatternStop, Stopped, Finished}
+use Rattle.least.proofs.PatternSites.{Here, noSpace, token, noToken, noLF, next-line, line-fault, token-fault, end-fault}
+use Rattle.least.proofs.PatternFacts.{PatternFacts, pattern-facts, facts-spaces, stands-more, name-length}
 
 module _ (s : Bytes) (bytes : isBytes s ≡ true) (symbols : List Span) (e : ℕ) (ready : Ready s symbols e) where
   -- the space behind `match` is missing

@@ -17,10 +17,10 @@ use Rattle.form.specs.Lines.{spanOf, declareFault, argumentFault, Table, Variab
 use Rattle.form.specs.Lines.{SymbolRead, noSymbolRead, kindFrom, symbolFrom, noTable, withSymbol, Lines, linesFrom, linesOf}
 use Rattle.form.proofs.Scans.{same-word}
 use Rattle.form.proofs.TokenScan.{by-equal}
 use Rattle.fault.specs.Places.{wordAt}
-use Rattle.fault.proofs.HeaderPrefix.{HeaderPrefix, opened, variable, line, named, kinded, argued, HeaderStop, Matched}
-use Rattle.fault.proofs.HeaderPrefix.{noVars, badVariable, fifthVariable, badName, badKind, badArgument, fifthArgument, badLine, seventeenth}
-use Rattle.fault.proofs.Gaps.{gap, want}
+use Rattle.least.proofs.HeaderPrefix.{HeaderPrefix, opened, variable, line, named, kinded, argued, HeaderStop, Matched}
+use Rattle.least.proofs.HeaderPrefix.{noVars, badVariable, fifthVariable, badName, badKind, badArgument, fifthArgument, badLine, seventeenth}
+use Rattle.least.proofs.Gaps.{gap, want}
 
 -- what comes of a step of the course: it goes on, and then F is so; or it stops
 pub record Progress (s : Bytes) (x : Step) (F : Type 0) : Type 0 where

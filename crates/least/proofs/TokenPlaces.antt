@@ -19,8 +19,8 @@ use Rattle.form.specs.Scan.{at, pastEnd, run, isSpace, part, spacesEnd, nameEnd
 use Rattle.form.proofs.TokenScan.{apart, tokens-apart}
 use Rattle.form.proofs.Words.{run-split}
 use Rattle.form.proofs.Scans.{run-step, run-behind, inside-of, nameEnd-ge}
 use Rattle.fault.specs.Places.{inName, nameAt}
-use Rattle.fault.proofs.Spots.{run-inside}
+use Rattle.least.proofs.Spots.{run-inside}
 
 -- whether a name was begun
 abbrev begun : Bytes → Bool

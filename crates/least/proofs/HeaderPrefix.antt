@@ -10,9 +10,9 @@ use Rattle.form.specs.Limits.{variableLimit, symbolLimit, parameterLimit}
 use Rattle.form.specs.Text.{Bytes, space, lf, varsWord, symWord, matchWord, Span}
 use Rattle.form.specs.Scan.{at, isWordByte, wordEnd, spacesEnd, kindOf}
 use Rattle.form.specs.Lines.{spanOf, indexOf, declareFault, argumentFault}
 use Rattle.fault.specs.Places.{Ends, wordAt, PatternLine}
 use Rattle.fault.specs.Fault.{VariableNamed, SymbolNamed}
-use Rattle.fault.proofs.Sites.{Clean}
+use Rattle.least.proofs.Sites.{Clean}
 
 -- one space at p, and behind it a word
 abbrev pub Gap : Bytes → ℕ → Type 0

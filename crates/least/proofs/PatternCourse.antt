@@ -28,7 +28,7 @@ use Rattle.form.proofs.TokenScan.{by-equal, inside-of}
 use Rattle.form.proofs.Course.{drop-next}
 use Rattle.form.proofs.Complete.{isPostfix}
 use Rattle.form.proofs.Fuel.{item-ends, sequence-ends, atom-ends}
-use Rattle.fault.proofs.PatternPrefix.{PatternPrefix, Blocked, PatternStop, Stopped, Finished}
+use Rattle.least.proofs.PatternPrefix.{PatternPrefix, Blocked, PatternStop, Stopped, Finished}
 
 -- the bytes that each level goes on with: none; the signs behind an atom; what begins an item; the bar
 abbrev goesAtom : ℕ → Bool

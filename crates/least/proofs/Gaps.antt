@@ -16,10 +16,10 @@ use Rattle.form.specs.Scan.{Step, go, fail, at, pastEnd, isSpace, isWordByte, w
 use Rattle.form.specs.Lines.{wantWord}
 use Rattle.form.proofs.Scans.{run-end, at-end, at-inside, wordEnd-le, spacesEnd-le, spacesEnd-ge}
 use Rattle.form.proofs.TokenScan.{by-equal, inside-of, here-space}
 use Rattle.fault.specs.Places.{Ends}
-use Rattle.fault.proofs.Spots.{run-inside}
-use Rattle.fault.proofs.HeaderPrefix.{Gap, HeaderPrefix, opened, variable, line, named, kinded, argued}
-use Rattle.fault.proofs.HeaderPrefix.{HeaderStop, noLF, lastSpace, twoSpaces, fewWords}
+use Rattle.least.proofs.Spots.{run-inside}
+use Rattle.least.proofs.HeaderPrefix.{Gap, HeaderPrefix, opened, variable, line, named, kinded, argued}
+use Rattle.least.proofs.HeaderPrefix.{HeaderStop, noLF, lastSpace, twoSpaces, fewWords}
 
 -- p is the end of a word
 pub record WordEnd (s : Bytes) (p : ℕ) : Type 0 where

@@ -13,11 +13,11 @@ use lib.ListN.{length}
 use Rattle.form.specs.Text.{Bytes, space, lf}
 use Rattle.form.specs.Scan.{at}
 use Rattle.form.proofs.TokenScan.{inside-of}
 use Rattle.fault.specs.Places.{Spot, passed, spotAt, On, Ends, Header, PatternLine, TokenAt, before, Pattern}
 use Rattle.fault.specs.Fault
 use Rattle.fault.specs.Fault.{TokenFault, Fault}
-use Rattle.fault.proofs.Sites.{behind-header, Clean}
-use Rattle.fault.proofs.Spots.{NotBehind, spot-step, spot-later, word-end, word-spot, word-same}
+use Rattle.least.proofs.Sites.{behind-header, Clean}
+use Rattle.least.proofs.Spots.{NotBehind, spot-step, spot-later, word-end, word-spot, word-same}
 
 -- an LF, and only it, ends the line
 behind-line : (x : Spot) (b : ℕ) → (b ≡ lf → ⊥) → passed x b .line ≡ x .line

@@ -17,14 +17,14 @@ use Rattle.form.specs.Scan.{at, run, isSpace, isWordByte, wordEnd, spacesEnd}
 use Rattle.form.specs.Lines.{spanOf}
 use Rattle.form.proofs.Scans.{run-step, run-stop}
 use Rattle.form.proofs.TokenScan.{inside-of}
 use Rattle.fault.specs.Places.{On, Ends, spotAt, Word, wordAt, Header}
 use Rattle.fault.specs.Fault.{WordFault, Fault, Declares, IsArgument, isNameForm}
-use Rattle.fault.proofs.Spots.{spot-zero, spot-step, word-end, word-bytes, word-spot, word-same}
-use Rattle.fault.proofs.Sites.{Clean, inside-fault, space-fault, word-fault, lf-fault}
-use Rattle.fault.proofs.HeaderPrefix.{Gap, HeaderPrefix}
-use Rattle.fault.proofs.WordLaws.{Among, among-append, among-one, span-word, word-first}
-use Rattle.fault.proofs.WordLaws.{Declaring, declaring, Arguing, arguing, kind-some}
-use Rattle.fault.proofs.WordFaults.{Stood, stands-as, NoVariable, first-wrong, name-wrong, kind-wrong, argument-wrong}
+use Rattle.least.proofs.Spots.{spot-zero, spot-step, word-end, word-bytes, word-spot, word-same}
+use Rattle.least.proofs.Sites.{Clean, inside-fault, space-fault, word-fault, lf-fault}
+use Rattle.least.proofs.HeaderPrefix.{Gap, HeaderPrefix}
+use Rattle.least.proofs.WordLaws.{Among, among-append, among-one, span-word, word-first}
+use Rattle.least.proofs.WordLaws.{Declaring, declaring, Arguing, arguing, kind-some}
+use Rattle.least.proofs.WordFaults.{Stood, stands-as, NoVariable, first-wrong, name-wrong, kind-wrong, argument-wrong}
 
 -- the words that declare a variable, and those that declare a symbol
 abbrev pub IsVariable : (k i : ℕ) → Type 0

@@ -17,15 +17,15 @@ use Rattle.form.specs.Scan.{at, isWordByte, wordEnd}
 use Rattle.form.specs.Lines.{indexOf}
 use Rattle.form.proofs.Scans.{same-word}
 use Rattle.form.proofs.TokenScan.{inside-of}
 use Rattle.fault.specs.Places.{spotAt, Word, wordAt, Header, PatternLine}
 use Rattle.fault.specs.Fault.{WordFault, Declares, IsArgument, VariableNamed, SymbolNamed, Fault, Least}
-use Rattle.fault.proofs.Spots.{spot-zero, spot-step, spot-later, word-end, word-bytes, word-spot, word-same, word-before}
-use Rattle.fault.proofs.Sites.{Clean, least-of, fault-number, match-end, word-fault, match-fault}
-use Rattle.fault.proofs.HeaderPrefix.{HeaderStop, Matched, Ready}
-use Rattle.fault.proofs.WordLaws.{Among, Declaring, declaring, Arguing, arguing, kind-none}
-use Rattle.fault.proofs.WordFaults.{Stood, NoVariable, IsExcess, first-wrong, name-wrong, argument-wrong, excess-wrong}
-use Rattle.fault.proofs.HeaderFacts.{IsSymbol, Lists, HeaderFacts, which, lists-joined, on, gap-word, gap-clean, gap-passed}
-use Rattle.fault.proofs.HeaderFacts.{line-spot, line-clean, line-header, line-word, header-facts}
+use Rattle.least.proofs.Spots.{spot-zero, spot-step, spot-later, word-end, word-bytes, word-spot, word-same, word-before}
+use Rattle.least.proofs.Sites.{Clean, least-of, fault-number, match-end, word-fault, match-fault}
+use Rattle.least.proofs.HeaderPrefix.{HeaderStop, Matched, Ready}
+use Rattle.least.proofs.WordLaws.{Among, Declaring, declaring, Arguing, arguing, kind-none}
+use Rattle.least.proofs.WordFaults.{Stood, NoVariable, IsExcess, first-wrong, name-wrong, argument-wrong, excess-wrong}
+use Rattle.least.proofs.HeaderFacts.{IsSymbol, Lists, HeaderFacts, which, lists-joined, on, gap-word, gap-clean, gap-passed}
+use Rattle.least.proofs.HeaderFacts.{line-spot, line-clean, line-header, line-word, header-facts}
 
 -- what a byte may be
 by-byte : {A : Type 0} (b : ℕ) → (b ≡ space → A) → (b ≡ lf → A) → (isWordByte b ≡ true → A) → A

@@ -11,14 +11,14 @@ use lib.Seq.{length-take-le}
 use Rattle.form.specs.Text.{Bytes, space, lf, matchWord}
 use Rattle.form.specs.Scan.{at, isWordByte, wordEnd, spacesEnd}
 use Rattle.form.proofs.TokenScan.{inside-of}
 use Rattle.fault.specs.Places.{On, Ends, spotAt, Word, wordAt, Header, PatternLine}
 use Rattle.fault.specs.Fault.{WordFault, TokenFault, WordsMissing, Fault, Least}
 use Rattle.fault.specs.Fault.{notVars, notSym, seventeenth, noName, longName, already, noKind, noArgument, longArgument}
 use Rattle.fault.specs.Fault.{undeclaredArgument, symbolArgument, fifthVariable, fifthArgument}
 use Rattle.fault.specs.Fault.{longToken, thirtySecond, seventeenthOpen, undeclaredName, variableName, misplaced}
 use Rattle.fault.specs.Fault.{spaceFirst, spaceTwice, spaceLast, word, missingWord, missingSym, missingSpace, token, missingToken}
 use Rattle.fault.specs.Fault.{missingLF, after}
-use Rattle.fault.proofs.Spots.{spot-step, word-end, word-spot, word-same}
+use Rattle.least.proofs.Spots.{spot-step, word-end, word-spot, word-same}
 
 -- no fault stands before p
 abbrev pub Clean : Bytes → ℕ → Type 0

@@ -20,9 +20,9 @@ use Rattle.form.proofs.Words as words
 use Rattle.form.proofs.Words.{word-here, word-part, run-over, run-passes, byte-inside}
 use Rattle.form.proofs.Names.{at-first, fault-at, stops-name, lower-name-byte, known, index-of, indexIn, index-known}
 use Rattle.form.proofs.Numerals.{kindIn, kind-of, kind-read, kind-found}
 use Rattle.fault.specs.Places.{Word, wordAt}
 use Rattle.fault.specs.Fault.{isNameForm}
-use Rattle.fault.proofs.Spots.{word-end}
+use Rattle.least.proofs.Spots.{word-end}
 
 -- the fault of a word as a name
 abbrev nameNumber : Bytes → ℕ
