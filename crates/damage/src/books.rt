@@ -1,15 +1,19 @@
 // Damage to the book of `main`: three symbols (the first with one place, the others with two), two variables, two positions.
-// Kind 0 leaves it, 1 to 14 take it out of what document 01 calls sound, 15 lets a word end at position 1, where `s` is free.
+// Kind 0 leaves it, 1 to 14 and 16 take it out of what is sound, 15 lets a word end at position 1, where `s` is free.
 use crate::amounts;
 use crate::sizes::ARGUMENTS;
 use crate::sizes::NAMES;
 use crate::sizes::POSITIONS;
 use crate::sizes::SYMBOLS;
+use crate::sizes::TEXT_BYTES;
 use crate::sizes::VARIABLES;
 use book::Book;
 use table::Name;
 use table::Place;
 use table::Symbol;
+
+// The kind of damage to a name.
+const MISNAMED: u32 = 16;
 
 pub fn damaged(b: Book, kind: u32, x: u64, y: u64) -> Book {
     if kind < 6 {
@@ -21,9 +25,33 @@ pub fn damaged(b: Book, kind: u32, x: u64, y: u64) -> Book {
     if kind < 15 {
         return misdeclared(b, kind, x, y);
     }
+    if kind == MISNAMED {
+        return misnamed(b, x, y);
+    }
     let mut r = b;
     r.ends = 2;
     r
+}
+
+// One of the five declared names reaches beyond the longest text: by its start, its size, their sum, or a sum beyond 64 bits.
+fn misnamed(b: Book, x: u64, y: u64) -> Book {
+    let i = (y % 5) as usize;
+    let n = b.names[i];
+    let mut r = b;
+    r.names[i] = beyond(n, x, y / 5);
+    r
+}
+
+fn beyond(n: Name, x: u64, y: u64) -> Name {
+    let far = amounts::above(TEXT_BYTES + 1, x);
+    let more = amounts::above(1, x);
+    let starts = [far, n.start, TEXT_BYTES, far];
+    let sizes = [n.size, far, more, far];
+    let k = (y % 4) as usize;
+    Name {
+        start: starts[k],
+        size: sizes[k],
+    }
 }
 
 // A count out of its range.
@@ -146,7 +174,25 @@ fn argument(p: Place, kind: u32, x: u64) -> Place {
     }
 }
 
-// What no count reaches filled with x: names (which no event call reads), symbols, their places, positions.
+// The declared names, the last of them just inside the longest text, and the others as told.
+fn names(a: [Name; NAMES], other: Name) -> [Name; NAMES] {
+    let first = a[0];
+    let second = a[1];
+    let third = a[2];
+    let fourth = a[3];
+    let mut r = [other; NAMES];
+    r[0] = first;
+    r[1] = second;
+    r[2] = third;
+    r[3] = fourth;
+    r[4] = Name {
+        start: TEXT_BYTES,
+        size: 0,
+    };
+    r
+}
+
+// What no count reaches filled with x: names, symbols, their places, positions.
 pub fn spare(b: Book, x: u64) -> Book {
     let short = amounts::short(x);
     let p = Place {
@@ -157,7 +203,8 @@ pub fn spare(b: Book, x: u64) -> Book {
         start: x as usize,
         size: x as usize,
     };
-    let names = [n; NAMES];
+    let declared = b.names;
+    let more_names = names(declared, n);
     let occurrences = b.occurrences;
     let more_occurrences = words(occurrences, short);
     let follows = b.follows;
@@ -165,7 +212,7 @@ pub fn spare(b: Book, x: u64) -> Book {
     let table = b.table;
     let more_table = symbols(table, p, x);
     let mut r = b;
-    r.names = names;
+    r.names = more_names;
     r.occurrences = more_occurrences;
     r.follows = more_follows;
     r.table = more_table;
