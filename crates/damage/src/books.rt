@@ -1,15 +1,19 @@
 // Damage to the book of `main`: three symbols (the first with one place, the others with two), two variables, two positions.
-// Kind 0 leaves it, 1 to 14 take it out of what document 01 calls sound, 15 lets a word end at position 1, where `s` is free.
+// Kind 0 leaves it, 1 to 14 and 16 take it out of what is sound, 15 lets a word end at position 1, where `s` is free.
 use crate::amounts;
 use crate::sizes::ARGUMENTS;
 use crate::sizes::NAMES;
 use crate::sizes::POSITIONS;
 use crate::sizes::SYMBOLS;
+use crate::sizes::TEXT_BYTES;
 use crate::sizes::VARIABLES;
 use book::Book;
 use table::Name;
 use table::Parameter;
 use table::Symbol;
+
+// The kind of damage to a name.
+const MISNAMED: u32 = 16;
 
 pub fn damaged(b: Book, kind: u32, x: u64, y: u64) -> Book {
     if kind < 6 {
@@ -21,9 +25,33 @@ pub fn damaged(b: Book, kind: u32, x: u64, y: u64) -> Book {
     if kind < 15 {
         return misdeclared(b, kind, x, y);
     }
+    if kind == MISNAMED {
+        return misnamed(b, x, y);
+    }
     let mut r = b;
     r.ends = 2;
     r
+}
+
+// One of the five declared names reaches beyond the longest text: by its start, its size, their sum, or a sum beyond 64 bits.
+fn misnamed(b: Book, x: u64, y: u64) -> Book {
+    let i = (y % 5) as usize;
+    let n = b.names[i];
+    let mut r = b;
+    r.names[i] = beyond(n, x, y / 5);
+    r
+}
+
+fn beyond(n: Name, x: u64, y: u64) -> Name {
+    let far = amounts::above(TEXT_BYTES + 1, x);
+    let more = amounts::above(1, x);
+    let starts = [far, n.start, TEXT_BYTES, far];
+    let sizes = [n.size, far, more, far];
+    let k = (y % 4) as usize;
+    Name {
+        start: starts[k],
+        size: sizes[k],
+    }
 }
 
 // A count out of its range.
@@ -146,6 +174,24 @@ fn argument(p: Parameter, kind: u32, x: u64) -> Parameter {
     }
 }
 
+// The declared names, the last of them just inside the longest text, and the others as told.
+fn names(a: [Name; NAMES], other: Name) -> [Name; NAMES] {
+    let first = a[0];
+    let second = a[1];
+    let third = a[2];
+    let fourth = a[3];
+    let mut r = [other; NAMES];
+    r[0] = first;
+    r[1] = second;
+    r[2] = third;
+    r[3] = fourth;
+    r[4] = Name {
+        start: TEXT_BYTES,
+        size: 0,
+    };
+    r
+}
+
 // What no count reaches filled with x: names, symbols, their places, positions.
 pub fn spare(b: Book, x: u64) -> Book {
     let short = amounts::short(x);
@@ -157,8 +203,8 @@ pub fn spare(b: Book, x: u64) -> Book {
         start: x as usize,
         size: x as usize,
     };
-    let names = b.names;
-    let more_names = named(names, n);
+    let declared = b.names;
+    let more_names = names(declared, n);
     let occurrences = b.occurrences;
     let more_occurrences = words(occurrences, short);
     let follows = b.follows;
@@ -177,22 +223,6 @@ fn words(a: [u32; POSITIONS], x: u32) -> [u32; POSITIONS] {
     let mut r = [x; POSITIONS];
     r[0] = a[0];
     r[1] = a[1];
-    r
-}
-
-// The names of the two variables and the three symbols are judged.
-fn named(a: [Name; NAMES], n: Name) -> [Name; NAMES] {
-    let first = a[0];
-    let second = a[1];
-    let third = a[2];
-    let fourth = a[3];
-    let fifth = a[4];
-    let mut r = [n; NAMES];
-    r[0] = first;
-    r[1] = second;
-    r[2] = third;
-    r[3] = fourth;
-    r[4] = fifth;
     r
 }
 

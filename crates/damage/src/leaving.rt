@@ -36,7 +36,7 @@ fn fits(s: Space, rows: usize) -> bool {
 // "Events: 9 to 13 in that order." 9 "also covers a row that would leave a variable free": `open` where words end at position 1.
 fn answer_of(k: Kinds, m: Move, s: Space) -> usize {
     let h = m.held;
-    if 0 < k.book && k.book < 15 || 0 < k.state {
+    if 0 < k.book && k.book != 15 || 0 < k.state {
         return 9;
     }
     if 0 < k.record {

@@ -37,7 +37,7 @@ fn kind(seed: u64, k: u64, kinds: u64) -> u32 {
 pub fn damages(seed: u64, held: usize) -> Kinds {
     let state = kind(seed, 32, 10);
     Kinds {
-        book: kind(seed, 30, 15),
+        book: kind(seed, 30, 16),
         state: if held == 2 { state } else { 0 },
         record: kind(seed, 34, 8),
     }

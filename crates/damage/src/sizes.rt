@@ -27,3 +27,6 @@ pub const SYMBOLS: usize = 16;
 pub const ARGUMENTS: usize = 4;
 
 pub const POSITIONS: usize = 31;
+
+// The longest text of a book.
+pub const TEXT_BYTES: usize = 4096;
