@@ -12,7 +12,7 @@ ghost use Rattle.form.specs.Text.{ignoredWord, varsWord, symWord, matchWord};
 ghost use Rattle.form.specs.Form.{sameWord};
 ghost use Rattle.form.specs.Scan.{part, fail};
 ghost use Rattle.form.specs.Lines as Lines;
-ghost use Rattle.table.specs.Tables.{symbolOf, placeOf, spanOf, viewSymbol, viewTable, Ready};
+ghost use Rattle.table.specs.Tables.{symbolOf, parameterOf, spanOf, viewSymbol, viewTable, Ready};
 ghost use Rattle.lines.specs.Results.{linesRead, variablesRead, argumentsRead, symbolRead};
 
 // What was read of the lines: no fault and the place to go on from, or a fault's number and its place; and the table so far.
@@ -130,7 +130,7 @@ fn argument_fault(s: &[u8], t: Table, p: usize, e: usize) -> usize
 // The place that an argument word stands for.
 fn argument_of(s: &[u8], t: Table, p: usize, e: usize) -> Parameter
     requires { ⌜ Ready (now s) t × (p ≤ e) × (e ≤ length (now s)) ⌝ }
-    ensures { λ r. ⌜ r ≡ placeOf (Lines.argumentOf (now (s .entry)) (viewTable t .variables) p e) ⌝ }
+    ensures { λ r. ⌜ r ≡ parameterOf (Lines.argumentOf (now (s .entry)) (viewTable t .variables) p e) ⌝ }
 {
     if is_ignored(s, p, e) {
         return Parameter { tag: 0, number: 0 };

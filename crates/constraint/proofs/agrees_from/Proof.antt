@@ -7,7 +7,7 @@ use native.Mathlib.Numerals.{add-one}
 use native.Mathlib.Omega.{arith}
 use borrow.Author.Needs.{needs}
 use lib.ListN.{length, getD}
-use Rattle.laws.proofs.Parameters.{map-length}
+use Rattle.laws.proofs.Arrays.{map-length}
 use Rattle.meaning.specs.Events as Events
 use Rattle.constraint.specs.Constraints.{viewDemand, demandsIn, noDemand}
 use Rattle.constraint.proofs.Views.{emptyDemand, demand-at}

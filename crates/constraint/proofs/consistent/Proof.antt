@@ -4,7 +4,7 @@ use Prim.Native.Nat.{_-_, _≤_}
 use native.Mathlib.Omega.{arith}
 use borrow.Author.Needs.{needs}
 use lib.ListN.{length, drop}
-use Rattle.laws.proofs.Parameters.{map-length}
+use Rattle.laws.proofs.Arrays.{map-length}
 use Rattle.meaning.specs.Events as Events
 use Rattle.constraint.specs.Constraints.{demandsIn}
 use Rattle.constraint.proofs.Steps.{consistent-next, consistent-none}

@@ -4,7 +4,7 @@ use Prim.Native.Nat.{_-_, _≤_}
 use native.Mathlib.Omega.{arith}
 use borrow.Author.Needs.{needs}
 use lib.ListN.{length}
-use Rattle.laws.proofs.Parameters.{map-length}
+use Rattle.laws.proofs.Arrays.{map-length}
 use Rattle.constraint.proofs.Steps.{within-at, Filled, filled-none, filled-more}
 use Rattle.constraint.proofs.constraints.Statement.{statement}
 use Rattle.constraint.proofs.constraints.Tie as tie

@@ -6,7 +6,7 @@ use Prim.Native.Nat.{_-_, _≤_}
 use native.Mathlib.Omega.{arith}
 use borrow.Author.Needs.{needs}
 use lib.ListN.{length}
-use Rattle.laws.proofs.Parameters.{map-length}
+use Rattle.laws.proofs.Arrays.{map-length}
 use Rattle.constraint.proofs.Steps.{Gathered, gathered-none, gathered-skip, gathered-more, gathered-all}
 use Rattle.constraint.proofs.demands.Statement.{statement}
 use Rattle.constraint.proofs.demands.Tie as tie

@@ -5,7 +5,7 @@ use borrow.Author.Needs.{needs}
 use borrow.Author.Tests.{eq-eqb, ne-eqb}
 use lib.Dec.{eqb}
 use lib.ListN.{length}
-use Rattle.laws.proofs.Parameters.{map-length}
+use Rattle.laws.proofs.Arrays.{map-length}
 use Rattle.meaning.specs.Events as Events
 use Rattle.table.specs.Tables.{viewSymbol}
 use Rattle.record.specs.Records.{viewEvent}
