@@ -1,31 +1,41 @@
 -- For any book and state, reached by a run or not: the number that a call hands back is that of the first check that fails, a refusal
 -- leaves all but the refused counter, and an event has few rows.
-use mathlib.Core.Path.{_≡_, refl, ap, _∙_}
+use mathlib.Core.Path.{_≡_, refl, sym, ap, _∙_}
 use mathlib.Core.Bool.{Bool, true, false, cond, not, _&&_, _||_, and-false, or-true, false≢true}
-use mathlib.Core.List.{List, [], _∷_}
+use mathlib.Core.List.{List, [], _∷_, List·Memᴰ}
 use mathlib.Core.Logic.{_↔_, Iff·trans, ⊎-elim}
 use Prim.Native.Nat.{ℕ, _*_, _≤_}
 use native.Mathlib.Omega.{arith}
 use borrow.Author.Tests.{eqb-true, eqb-false, eq-eqb, ltb-true, lt-ltb, not-true}
 use lib.Dec.{eqb, leb}
-use Rattle.meaning.specs.Book.{soundBook}
+use Rattle.laws.specs.Lists.{any, keep}
+use Rattle.meaning.specs.Events.{Event, constraintOf}
+use Rattle.meaning.specs.Book as Plain
+use Rattle.meaning.specs.Book.{soundBook, positions, endsAt, symbolOf}
+use Rattle.meaning.specs.Labels.{Disjunct, Held, isFree, meets, met, sources, stepSet}
 use Rattle.meaning.specs.Rows.{rows, leavesFree}
 use Rattle.meaning.specs.Sound.{soundHeld, soundState, eventLimit}
+use Rattle.meaning.proofs.Bound.{closed}
 use Rattle.meaning.proofs.Few.{few-rows}
+use Rattle.meaning.proofs.Members.{stepSet-member}
 use Rattle.meaning.proofs.NoRoom.{no-room}
-use Rattle.laws.proofs.Lists.{same-test, and-true-split, and-false-split, or-true-split, or-false-split, either}
+use Rattle.laws.proofs.Lists.{any-found, mem-keep, same-test, and-true-split, and-false-split, or-true-split, or-false-split, either}
 use Rattle.form.specs.Text.{Bytes}
 use Rattle.record.specs.Records.{isRecord, eventIn}
 use Rattle.book.specs.Books.{viewBook}
 use Rattle.book.specs.declared.Book.{Book}
 use Rattle.state.specs.declared.State.{State}
-use Rattle.state.specs.States.{heldFirst, viewState}
+use lib.ListN.{replicate}
+use Rattle.laws.specs.Parts.{pad}
+use Rattle.slot.specs.Slots.{slotOf}
+use Rattle.disjunct.specs.Disjuncts.{disjunctOf}
+use Rattle.state.specs.States.{stateOf, heldFirst, viewState}
 use Rattle.sound.specs.Soundness.{bookCounts, bookSound, stateCounts, stateSound}
 use Rattle.tally.specs.declared.Tally.{Tally}
 use Rattle.tally.specs.Tallies.{tallied}
 use Rattle.calls.specs.Answers.{Check, numberOf, firstOf}
 use Rattle.calls.specs.Calls as Calls
-use Rattle.calls.specs.Calls.{isAccepted, rowsBy, leavesFreeBy, roomBy, answerTo, taken, bufferAfter}
+use Rattle.calls.specs.Calls.{freshState, isAccepted, rowsBy, leavesFreeBy, roomBy, answerTo, taken, bufferAfter}
 use Rattle.calls.specs.Checks.{Unsound, unsoundBook, unsoundState, leftFree, OutOfForm, TooMany, NoRoom, NoSpace, FirstFailing}
 use Rattle.calls.specs.Runs.{Lent}
 use Rattle.calls.specs.declared.EventAnswer.{EventAnswer}
@@ -84,13 +94,34 @@ row4 h = (λ n. let (a, (b, (c, d))) = h .0 n in (a, b, c, d), λ (a, b, c, d). 
 row5 : {N A B C D E : Type 0} → N ↔ (A × (B × (C × (D × E)))) → N ↔ (A × B × C × D × E)
 row5 h = (λ n. let (a, (b, (c, (d, e)))) = h .0 n in (a, b, c, d, e), λ (a, b, c, d, e). h .1 (a, (b, (c, (d, e)))))
 
+-- "a row that would leave a variable free", in words: a disjunct of an ending position's step set
+found-free : (b : Plain.Book) (held : List Held) (e : Event) → leavesFree b held e ≡ true
+    → (q : ℕ) × List·Memᴰ q (positions b) × (endsAt b q ≡ true) × ((D : Disjunct) × List·Memᴰ D (stepSet b held e q) × (any isFree D ≡ true))
+unfolding leavesFree
+found-free b held e h =
+    let (q, m, k) = any-found _ (keep (endsAt b) (positions b)) h in
+    let c = constraintOf (symbolOf b q) e in
+    let (S, n, j) = any-found (λ D. meets D c && any isFree (met D c)) (sources b held q) k in
+    let (x, y) = and-true-split (meets S c) (any isFree (met S c)) j in
+    let (i, u) = mem-keep (endsAt b) q (positions b) .0 m in
+    (q, i, u, (met S c, stepSet-member b held e q (met S c) .1 (S, n, x, refl), y))
+
+free-found : (b : Plain.Book) (held : List Held) (e : Event) (q : ℕ) → List·Memᴰ q (positions b) → endsAt b q ≡ true
+    → (D : Disjunct) → List·Memᴰ D (stepSet b held e q) → any isFree D ≡ true → leavesFree b held e ≡ true
+free-found b held e q m k D n f = go (leavesFree b held e) refl
+  where
+    go : (t : Bool) → leavesFree b held e ≡ t → t ≡ true
+    go true h = refl
+    go false h = absurd (false≢true (sym (closed b held e h q m k D n) ∙ f))
+
 -- Each check of the list fails just where document 01's words are true.
 module _ (b : Book) (s : State) (bytes : Bytes) where
   unsound-is : (Calls.unsound b s bytes ≡ true) ↔ Unsound b s bytes
   unfolding Calls.unsound leavesFreeBy
   unsound-is = (
     λ h. ⊎-elim (λ k. ⊎-elim unsoundBook unsoundState (and-false-split (bookSound b) (stateSound b s) (not-true _ k)))
-        (λ k. let (f, g) = and-true-split (isRecord bytes) _ k in leftFree f g)
+        (λ k. let (f, g) = and-true-split (isRecord bytes) _ k in
+        let (q, m, j, (D, n, y)) = found-free (viewBook b) (heldFirst (b .variables) s) (eventIn bytes) g in leftFree f q m j D n y)
         (or-true-split (not (bookSound b && stateSound b s)) _ h),
     back,
   )
@@ -99,7 +130,7 @@ module _ (b : Book) (s : State) (bytes : Bytes) where
           → (not (bookSound b && stateSound b s) || isRecord bytes && leavesFree (viewBook b) (heldFirst (b .variables) s) (eventIn bytes)) ≡ true
       back (unsoundBook h) = rw h
       back (unsoundState h) = rw (h, and-false)
-      back (leftFree f g) = rw (f, g, or-true)
+      back (leftFree f q m j D n y) = rw (f, free-found (viewBook b) (heldFirst (b .variables) s) (eventIn bytes) q m j D n y, or-true)
 
   outOfForm-is : (Calls.outOfForm b s bytes ≡ true) ↔ OutOfForm b s bytes
   unfolding Calls.outOfForm
@@ -171,6 +202,22 @@ refused-stays b s bytes buffer place t h =
   where
     not-accepted : (a : EventAnswer) → (numberOf a ≡ 0 → ⊥) → isAccepted a ≡ false
     not-accepted a k = same-test (isAccepted a) false (λ g. absurd (k (zero-accepted a g))) (λ g. absurd (false≢true g))
+
+-- "A fresh state has all 128 disjunct places free and event number 0.": every number of it
+pub fresh-state : freshState
+    ≡ record {
+      number = 0;
+      count = 0;
+      positions = replicate 128 0;
+      pool = replicate 128 (record { vars = replicate 4 (record { bound = false; value = 0; count = 0; excluded = replicate 6 0 }) });
+    }
+unfolding freshState stateOf disjunctOf slotOf pad
+fresh-state = refl
+
+-- the book is handed back as it came, accepted or refused
+pub book-stays : (b : Book) (s : State) (bytes buffer : Bytes) (place : ℕ) (t : Tally) → taken b s bytes buffer place t .book ≡ b
+unfolding taken
+book-stays b s bytes buffer place t = either (λ (r : Taken). r .book ≡ b) (isAccepted (answerTo b s bytes buffer place)) (λ _. refl) λ _. refl
 
 -- a book and a state that pass check 9
 sound-parts : (b : Book) (s : State) → bookSound b ≡ true → stateSound b s ≡ true

@@ -2,13 +2,16 @@
 -- theorem `first-failing` (../proofs/Checks.antt) says of what a call hands back that its number is that of the first that fails.
 use mathlib.Core.Path.{_≡_}
 use mathlib.Core.Bool.{true, false}
-use mathlib.Core.List.{List}
+use mathlib.Core.List.{List, List·Memᴰ}
 use mathlib.Core.Logic.{_↔_}
 use Prim.Native.Nat.{ℕ, _+_, _*_, _<_}
 use lib.ListN.{length}
 use Rattle.meaning.specs.Events.{Valuation}
 use Rattle.meaning.specs.Room.{Broken}
-use Rattle.meaning.specs.Rows.{rows, leavesFree}
+use Rattle.laws.specs.Lists.{any}
+use Rattle.meaning.specs.Book.{positions, endsAt}
+use Rattle.meaning.specs.Labels.{Disjunct, isFree, stepSet}
+use Rattle.meaning.specs.Rows.{rows}
 use Rattle.meaning.specs.Sound.{eventLimit}
 use Rattle.form.specs.Text.{Bytes}
 use Rattle.record.specs.Records.{isRecord, eventIn}
@@ -24,7 +27,8 @@ module _ (b : Book) (s : State) (bytes : Bytes) where
   pub data Unsound : Type 0 where
     unsoundBook : bookSound b ≡ false → Unsound
     unsoundState : stateSound b s ≡ false → Unsound
-    leftFree : isRecord bytes ≡ true → leavesFree (viewBook b) (heldFirst (b .variables) s) (eventIn bytes) ≡ true → Unsound
+    leftFree : isRecord bytes ≡ true → (q : ℕ) → List·Memᴰ q (positions (viewBook b)) → endsAt (viewBook b) q ≡ true
+        → (D : Disjunct) → List·Memᴰ D (stepSet (viewBook b) (heldFirst (b .variables) s) (eventIn bytes) q) → any isFree D ≡ true → Unsound
 
   -- 10: "event record out of form, or not 20 bytes"
   abbrev pub OutOfForm : Type 0

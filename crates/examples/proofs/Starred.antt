@@ -31,6 +31,7 @@ use Rattle.state.specs.States.{stateOf, heldFirst, viewState}
 use Rattle.sound.specs.Soundness.{symbolCounts, bookCounts, bookSound, slotCounts, stateCounts, stateSound}
 use Rattle.writer.specs.RowBytes.{wordBytes, rowBytes}
 use Rattle.calls.specs.Calls.{freshState, rowsBy, stateBy, leavesFreeBy, roomBy, unsound, outOfForm, tooMany, noRoom, noSpace, answerTo, taken, bufferAfter}
+use Rattle.tally.specs.Tallies.{capped, tallied}
 use Rattle.calls.specs.Answers.{numberOf}
 use Rattle.calls.specs.Runs.{lentAt, make, allBytes}
 use Rattle.book.proofs.Bench as Bench
@@ -38,7 +39,7 @@ use Rattle.least.proofs.Refused.{refused}
 use Rattle.calls.proofs.Answered.{answered}
 use Rattle.calls.proofs.Checks.{first-failing}
 use Rattle.calls.proofs.Listed.{listed}
-use Rattle.examples.specs.Starred.{Line, Entry, runs, late, reads, Back, buffer, callOf, idle, outcome, wanted, Meant, table}
+use Rattle.examples.specs.Starred.{Line, Entry, runs, late, reads, Back, buffer, place, callOf, idle, outcome, wanted, Meant, table}
 
 pub computed : map outcome table ≡ map wanted table
 unfolding bit join meet single front splice pad matches constraintOf soundBook soundSymbol compareDisjuncts skipBy sources stepSet skipSet newLabel
@@ -46,7 +47,7 @@ unfolding bit join meet single front splice pad matches constraintOf soundBook s
     symbolFrom linesOf itemOf nameAtom closed alternationFrom patternFrom lastLine matchFrom readingOf symbolOf tableOf viewSymbol wordAt argumentsIn
     isRecord eventIn viewSlot slotOf viewDisjunct disjunctOf answerOf readingFor bookFor emptyBook viewBook stateOf heldFirst viewState symbolCounts
     bookCounts bookSound slotCounts stateCounts stateSound wordBytes rowBytes freshState rowsBy stateBy leavesFreeBy roomBy unsound outOfForm tooMany
-    noRoom noSpace answerTo taken bufferAfter make table
+    noRoom noSpace answerTo taken bufferAfter make capped tallied table
 computed = refl
 
 -- the text and the records of an entry are bytes
@@ -66,7 +67,7 @@ firstNumber (b ∷ bs) = b .number
 
 -- what an entry `late` says of the one call
 late-number : (t : String) (k : ℕ) (l : Line) → outcome (late t k l) ≡ wanted (late t k l)
-    → numberOf (taken (reading (ascii t) .book) (idle k) (l .bytes) buffer 0 (lentAt (callOf l) .tally) .answer) ≡ l .number
+    → numberOf (taken (reading (ascii t) .book) (idle k) (l .bytes) buffer place (lentAt (callOf l) .tally) .answer) ≡ l .number
 unfolding make
 late-number t k l o = ap (λ x. firstNumber (x .lines)) o
 
@@ -75,7 +76,7 @@ meant (runs t ls) h o =
     let (d, r, f) = Bench.accepted (ascii t) .0 (ap (λ x. x .number) o) in
     let b = and-true-split (isBytes (ascii t)) _ (all-at inBytes bytes h) .1 in
     (d, r, f, listed (ascii t) d r f (map callOf ls) b, answered (ascii t) d r f (map callOf ls) b)
-meant (late t k l) h o = rw (late-number t k l o) at (first-failing (reading (ascii t) .book) (idle k) (l .bytes) buffer 0 (lentAt (callOf l) .tally))
+meant (late t k l) h o = rw (late-number t k l o) at (first-failing (reading (ascii t) .book) (idle k) (l .bytes) buffer place (lentAt (callOf l) .tally))
 meant (reads t n p) h o = rw (ap (λ x. x .number) o, ap (λ x. x .place) o) at (refused (ascii t) (all-at inBytes bytes h))
 
 pub starred : (e : Entry) → List·Memᴰ e table → (outcome e ≡ wanted e) × Meant e

@@ -1,7 +1,10 @@
 -- The table of the starred roasts of document 01 and a few of our own, as bytes: texts with the records sent under them and the lines that
 -- come back, and texts with the number and place that their reading gets. The theorems about the whole table are in ../proofs/Starred.antt.
 use mathlib.Core.List.{List, [], _∷_, _++_, map}
-use Prim.Native.Nat.{ℕ, suc, _-_, _*_, _/_, _%_}
+use mathlib.Core.Bool.{cond}
+use Prim.Native.Nat.{ℕ, suc, _+_, _-_, _/_, _%_}
+use lib.Dec.{eqb}
+use Rattle.tally.specs.declared.Tally.{Tally}
 use Prim.Native.String.{String}
 use lib.ListN.{length, take, replicate}
 use Rattle.laws.specs.Lists.{gather}
@@ -14,7 +17,6 @@ use Rattle.book.specs.Answers as Reading
 use Rattle.book.specs.Books.{reading}
 use Rattle.state.specs.declared.State.{State}
 use Rattle.state.specs.States.{stateOf}
-use Rattle.writer.specs.RowBytes.{rowSize}
 use Rattle.calls.specs.Answers.{numberOf}
 use Rattle.calls.specs.Checks.{FirstFailing}
 use Rattle.calls.specs.Runs.{Call, event, Made, make, runOf, acceptedIn, traceOf, Within, Delivered, Judged}
@@ -52,26 +54,34 @@ pub record Back : Type 0 where
   pub number : ℕ
   pub count : ℕ
   pub written : Bytes
+  pub tally : Tally
 
 pub record Outcome : Type 0 where
   pub number : ℕ
   pub place : ℕ
   pub lines : List Back
 
--- the row buffer of every call: room for two rows
+-- the row buffer of every call: just room for two rows behind the place 1
 abbrev pub buffer : Bytes
-buffer = replicate (2 * rowSize) 255
+buffer = replicate 49 255
 
--- a call that lends the record, the buffer from place 0 on, and an empty tally
+abbrev pub place : ℕ
+place = 1
+
+-- the tally of every call
+abbrev pub lentTally : Tally
+lentTally = record { accepted = 5; refused = 6; rows = 7 }
+
+-- a call that lends the record, the buffer from the place on, and the tally
 abbrev pub callOf : Line → Call
-callOf l = event (record { bytes = l .bytes; buffer = buffer; place = 0; tally = record { accepted = 0; refused = 0; rows = 0 } })
+callOf l = event (record { bytes = l .bytes; buffer = buffer; place = place; tally = lentTally })
 
 -- the state that holds nothing after so many events
 abbrev pub idle : ℕ → State
 idle events = stateOf (record { number = events; held = [] })
 
 abbrev pub backOf : Made → Back
-backOf m = record { number = numberOf (m .taken .answer); count = m .taken .rows; written = m .buffer }
+backOf m = record { number = numberOf (m .taken .answer); count = m .taken .rows; written = m .buffer; tally = m .taken .tally }
 
 -- what the definitions that the contracts cite give
 abbrev pub outcome : Entry → Outcome
@@ -88,7 +98,14 @@ outcome (reads t n p) =
 abbrev pub wantedBack : Line → Back
 wantedBack l =
     let rows = gather (λ r. r) (l .rows) in
-    record { number = l .number; count = length (l .rows); written = rows ++ replicate (length buffer - length rows) 255 }
+    let accepted : Tally = record { accepted = 6; refused = 6; rows = 7 + length (l .rows) } in
+    let refused : Tally = record { accepted = 5; refused = 7; rows = 7 } in
+    record {
+      number = l .number;
+      count = length (l .rows);
+      written = 255 ∷ rows ++ replicate (48 - length rows) 255;
+      tally = cond (eqb (l .number) 0) accepted refused;
+    }
 
 abbrev pub wanted : Entry → Outcome
 wanted (runs t ls) = record { number = 0; place = 0; lines = map wantedBack ls }
@@ -104,7 +121,7 @@ Meant (runs t ls) =
     (d : Declarations) × (r : Regex) × Form (ascii t) d r
     × ((i : ℕ) (m : Made) → Within (acceptedIn ms) i m → Delivered (tracematchOf d r) (traceOf ms) (suc i) m)
     × ((k : ℕ) (m : Made) → Within ms k m → Judged (tracematchOf d r) (traceOf (take k ms)) (m .lent) (numberOf (m .taken .answer)))
-Meant (late t k l) = FirstFailing (reading (ascii t) .book) (idle k) (l .bytes) buffer 0 (l .number)
+Meant (late t k l) = FirstFailing (reading (ascii t) .book) (idle k) (l .bytes) buffer place (l .number)
 Meant (reads t n p) = Rules (ascii t) p n
 
 -- the records of B1 and B2, variables d and s
@@ -157,6 +174,23 @@ table =
     -- ours: arguments with more than one byte in use; the rows ascend by the first differing value, 1 before 256
     ∷ runs "vars d s\nsym load 1 d s\nsym stop 9\nmatch load stop\n"
     (line (load 256 3) 0 [] ∷ line (load 1 67305985) 0 [] ∷ line (sent 9 []) 0 (row 3 (1 ∷ 67305985 ∷ []) ∷ row 3 (256 ∷ 3 ∷ []) ∷ []) ∷ [])
+    -- ours: four variables and four arguments, every byte of them another
+    ∷ runs "vars a b c d\nsym e 1 a b c d\nmatch e\n"
+    (line (1 ∷ 4 ∷ 0 ∷ 0 ∷ 1 ∷ 2 ∷ 3 ∷ 4 ∷ 5 ∷ 6 ∷ 7 ∷ 8 ∷ 9 ∷ 10 ∷ 11 ∷ 12 ∷ 13 ∷ 14 ∷ 15 ∷ 16 ∷ []) 0
+    ((1 ∷ 0 ∷ 0 ∷ 0 ∷ 4 ∷ 0 ∷ 0 ∷ 0 ∷ 1 ∷ 2 ∷ 3 ∷ 4 ∷ 5 ∷ 6 ∷ 7 ∷ 8 ∷ 9 ∷ 10 ∷ 11 ∷ 12 ∷ 13 ∷ 14 ∷ 15 ∷ 16 ∷ []) ∷ []) ∷ [])
+    -- ours: "the kinds are equal and the event's argument count equals the symbol's": one more, one less, another kind, and a match
+    ∷ runs "vars d\nsym a 1 d\nmatch a\n"
+    (line (sent 1 (5 ∷ 6 ∷ [])) 0 [] ∷ line (sent 1 []) 0 [] ∷ line (sent 2 (5 ∷ [])) 0 [] ∷ line (sent 1 (5 ∷ [])) 0 (row 4 (5 ∷ []) ∷ []) ∷ [])
+    -- ours: rows that differ in the second value only
+    ∷ runs "vars d s\nsym load 1 d s\nsym stop 9\nmatch load stop\n"
+    (line (load 1 9) 0 [] ∷ line (load 1 8) 0 [] ∷ line (sent 9 []) 0 (row 3 (1 ∷ 8 ∷ []) ∷ row 3 (1 ∷ 9 ∷ []) ∷ []) ∷ [])
+    -- ours: "event record out of form, or not 20 bytes": kind 0, five arguments, byte 2, byte 3, a byte beyond the count, 19 bytes, 21 bytes; 255 is a kind
+    ∷ runs "vars\nsym a 255\nmatch a\n"
+    (line (sent 0 []) 10 [] ∷ line (255 ∷ 5 ∷ replicate 18 0) 10 [] ∷ line (255 ∷ 0 ∷ 1 ∷ replicate 17 0) 10 [] ∷ line (255 ∷ 0 ∷ 0 ∷ 1 ∷ replicate 16 0) 10 []
+    ∷ line (255 ∷ 0 ∷ (replicate 17 0 ++ (1 ∷ []))) 10 [] ∷ line (255 ∷ replicate 18 0) 10 [] ∷ line (255 ∷ replicate 20 0) 10 [] ∷ line (sent 255 []) 0 (row 1 [] ∷ []) ∷ [])
+    -- ours: a third row does not fit
+    ∷ runs "vars d\nsym load 1 d\nsym stop 9\nmatch load stop\n"
+    (line (sent 1 (1 ∷ [])) 0 [] ∷ line (sent 1 (2 ∷ [])) 0 [] ∷ line (sent 1 (3 ∷ [])) 0 [] ∷ line (sent 9 []) 13 [] ∷ [])
     -- ours: a row number with three bytes in use, and the last event that is taken
     ∷ late "vars d s\nsym load 1 d s\nmatch load\n" 66050 (line (load 4294967295 67305985) 0 (row 66051 (4294967295 ∷ 67305985 ∷ []) ∷ []))
     ∷ late "vars d s\nsym load 1 d s\nmatch load\n" 999999 (line (load 1 7) 0 (row 1000000 (1 ∷ 7 ∷ []) ∷ []))

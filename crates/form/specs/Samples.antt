@@ -83,6 +83,10 @@ abbrev behind : ℕ → Regex
 behind zero = lit 0
 behind (suc n) = cat (lit 0) (behind n)
 
+-- `sym`, a name of one byte, KIND 1
+abbrev numbered : ℕ → Bytes
+numbered b = ascii "sym " ++ (b ∷ ascii " 1\n")
+
 -- B1
 unfoldable pub first : List Sample
 first =
@@ -113,6 +117,20 @@ full =
       symbols = span 17 12 ∷ span 46 1 ∷ [];
       tree = cat (star (opt (alt (lit 1) (lit 0)))) (cat (lit 0) (plus (lit 1)));
     })
+    -- 16 symbols, z and 0; `|` divides sequences
+    ∷ accepts (118 ∷ 97 ∷ 114 ∷ 115 ∷ 10 ∷ (gather numbered (110 ∷ 111 ∷ 112 ∷ 113 ∷ 114 ∷ 115 ∷ 116 ∷ 117 ∷ 118 ∷ 119 ∷ 120 ∷ 121 ∷ 122 ∷ 97 ∷ 98 ∷ []) ++ ascii "sym z0 1\nmatch n z0|z a\n"))
+    (record {
+      declared = record {
+        variables = [];
+        symbols = line "n" 1 [] ∷ line "o" 1 [] ∷ line "p" 1 [] ∷ line "q" 1 [] ∷ line "r" 1 [] ∷ line "s" 1 [] ∷ line "t" 1 [] ∷ line "u" 1 [] ∷ line "v" 1 []
+            ∷ line "w" 1 [] ∷ line "x" 1 [] ∷ line "y" 1 [] ∷ line "z" 1 [] ∷ line "a" 1 [] ∷ line "b" 1 [] ∷ line "z0" 1 [] ∷ [];
+      };
+      written = ascii "n z0|z a";
+      variables = [];
+      symbols = span 9 1 ∷ span 17 1 ∷ span 25 1 ∷ span 33 1 ∷ span 41 1 ∷ span 49 1 ∷ span 57 1 ∷ span 65 1 ∷ span 73 1 ∷ span 81 1 ∷ span 89 1 ∷ span 97 1
+          ∷ span 105 1 ∷ span 113 1 ∷ span 121 1 ∷ span 129 2 ∷ [];
+      tree = alt (cat (lit 0) (lit 15)) (cat (lit 12) (lit 13));
+    })
     ∷ []
 
 -- the line of variables
@@ -138,6 +156,23 @@ lines =
     ∷ refuses (ascii "vars b\nsym a 1 b b b b b\n") 3 23
     ∷ refuses (ascii "vars\nsym a 1\nmatch a") 2 20
     ∷ refuses (ascii "vars\nsym a 1\nmatch a\n\n") 2 21
+    -- a space first; another word for `vars`, for `sym`; no name; no argument, a long one, an undeclared one; two symbols of one name; `match` alone
+    ∷ refuses (ascii " vars\n") 2 0
+    ∷ refuses (ascii "vars\n sym a 1\n") 2 5
+    ∷ refuses (ascii "var\n") 2 0
+    ∷ refuses (ascii "vars\nsyn a 1\n") 2 5
+    ∷ refuses (ascii "vars a A\n") 2 7
+    ∷ refuses (ascii "vars 9a\n") 2 5
+    ∷ refuses (ascii "vars\nsym a 0\n") 2 11
+    ∷ refuses (ascii "vars\nsym a 1000\n") 2 11
+    ∷ refuses (ascii "vars\nsym a 1x\n") 2 11
+    ∷ refuses (ascii "vars b\nsym a 1 b _ !\n") 2 19
+    ∷ refuses (ascii "vars\nsym a 1 abcdefghijklm\n") 3 13
+    ∷ refuses (ascii "vars b\nsym a 1 c\n") 5 15
+    ∷ refuses (ascii "vars\nsym a 1\nsym a 2\n") 4 17
+    ∷ refuses (ascii "vars\nsym a 1\nmatch\n") 2 18
+    ∷ refuses (ascii "vars\nsym a 1\nmatch \n") 6 19
+    ∷ refuses (ascii "vars" ++ (10 ∷ gather numbered (110 ∷ 111 ∷ 112 ∷ 113 ∷ 114 ∷ 115 ∷ 116 ∷ 117 ∷ 118 ∷ 119 ∷ 120 ∷ 121 ∷ 122 ∷ 97 ∷ 98 ∷ 99 ∷ 100 ∷ []))) 3 133
     ∷ []
 
 -- patterns; "No word of the pattern may be empty, and each word must contain, for each variable, a symbol that binds it."
@@ -148,6 +183,12 @@ patterns =
     ∷ refuses (oneText (ascii "a |")) 6 22
     ∷ refuses (oneText (ascii "(a")) 6 21
     ∷ refuses (oneText (ascii "a b")) 5 21
+    ∷ refuses (oneText (ascii "a)")) 6 20
+    ∷ refuses (oneText (ascii "a||a")) 6 21
+    ∷ refuses (oneText (ascii "()")) 6 20
+    ∷ refuses (oneText (ascii "*a")) 6 19
+    ∷ refuses (oneText (ascii "a!")) 6 20
+    ∷ refuses (ascii "vars d\nsym a 1 d\nmatch a d\n") 5 25
     ∷ refuses (oneText (ascii "abcdefghijklm")) 3 19
     ∷ []
 

@@ -14,7 +14,7 @@ use Rattle.meaning.specs.Room.{setRoom, room}
 use Rattle.meaning.specs.Rows.{rows}
 use Rattle.meaning.specs.Runs.{heldAfter}
 use Rattle.meaning.specs.Starred.{Case, Answer, answers, table, onTheWay, partial, partialCalls, partialHeld}
-use Rattle.meaning.specs.Starred.{mixed, mixedCalls, mixedHeld}
+use Rattle.meaning.specs.Starred.{mixed, mixedCalls, mixedHeld, thrice, thriceCalls, thriceHeld}
 
 abbrev pub outcome : Case → Bool × Bool × List Answer
 outcome c = (isProper (c .tracematch), all wellFormed (c .events), answers (bookOf (c .tracematch)) [] (c .events))
@@ -39,6 +39,10 @@ partial-held = refl
 pub mixed-held : heldAfter mixed mixedCalls ≡ mixedHeld
 unfolding bit join single matches constraintOf bookOf compareDisjuncts skipBy sources stepSet skipSet newLabel newHeld
 mixed-held = refl
+
+pub thrice-held : heldAfter thrice thriceCalls ≡ thriceHeld
+unfolding bit join single matches constraintOf bookOf compareDisjuncts skipBy sources stepSet skipSet newLabel newHeld
+thrice-held = refl
 
 -- "exceeds 128": a set of 128 disjuncts has room, one of 129 has none
 pub full : (setRoom (replicate 128 []) ≡ true) × (setRoom (replicate 129 []) ≡ false)

@@ -246,24 +246,23 @@ completed-match tm ok σ t e =
     (λ h. (c .0 h .0, m .1 (c .0 h .1)), λ h. c .1 (h .0, m .0 (h .1)))
 
 -- what a place binds is an argument
-bound-argument : (σ : Valuation) (v : ℕ) (ps : List Parameter) (xs : List ℕ) → length ps ≡ length xs → any (binds v) ps ≡ true
+bound-argument : (σ : Valuation) (v : ℕ) (ps : List Parameter) (xs : List ℕ) → any (binds v) ps ≡ true
     → equalAll σ ps xs ≡ true → List·Memᴰ (getD σ v 0) xs
-bound-argument σ v [] xs n b h = absurd (false≢true b)
-bound-argument σ v (p ∷ ps) [] n b h = absurd (omega arith)
-bound-argument σ v (ignored ∷ ps) (x ∷ xs) n b h = List·Memᴰ·tail (bound-argument σ v ps xs (omega arith) b h)
-bound-argument σ v (names u ∷ ps) (x ∷ xs) n b h =
+bound-argument σ v [] xs b h = absurd (false≢true b)
+bound-argument σ v (p ∷ ps) [] b h = absurd (false≢true h)
+bound-argument σ v (ignored ∷ ps) (x ∷ xs) b h = List·Memᴰ·tail (bound-argument σ v ps xs b h)
+bound-argument σ v (names u ∷ ps) (x ∷ xs) b h =
     let hs = and-true-split (eqb (getD σ u 0) x) (equalAll σ ps xs) h in
     ⊎-elim (λ e. List·Memᴰ·head (ap (λ i. getD σ i 0) (eqb-true v u e) ∙ eqb-true (getD σ u 0) x (hs .0)))
-    (λ k. List·Memᴰ·tail (bound-argument σ v ps xs (omega arith) k (hs .1))) (or-true-split (eqb v u) (any (binds v) ps) b)
+    (λ k. List·Memᴰ·tail (bound-argument σ v ps xs k (hs .1))) (or-true-split (eqb v u) (any (binds v) ps) b)
 
 -- so a variable that a symbol binds has an argument of each event on which the symbol holds
 holds-argument : (s : Symbol) (e : Event) (σ : Valuation) (v : ℕ) → holds s e σ ≡ true → any (binds v) (s .parameters) ≡ true
     → List·Memᴰ (getD σ v 0) (e .args)
-unfolding holds matches
+unfolding holds
 holds-argument s e σ v h b =
-    let hs = and-true-split (matches s e) (equalAll σ (s .parameters) (e .args)) h in
-    let n = eqb-true (length (s .parameters)) (length (e .args)) (and-true-split (eqb (s .kind) (e .kind)) _ (hs .0) .1) in
-    bound-argument σ v (s .parameters) (e .args) n b (hs .1)
+    let hs = and-true-split (eqb (s .kind) (e .kind)) (equalAll σ (s .parameters) (e .args)) h in
+    bound-argument σ v (s .parameters) (e .args) b (hs .1)
 
 wellFormed-args : (e : Event) → wellFormed e ≡ true → all word32 (e .args) ≡ true
 unfolding wellFormed

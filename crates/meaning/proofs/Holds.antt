@@ -3,10 +3,11 @@
 use mathlib.Core.Path.{_≡_, refl, sym, ap, ap₂, _∙_}
 use mathlib.Core.Bool.{Bool, true, false, cond, not, _&&_, _||_, false≢true}
 use mathlib.Core.List.{List, [], _∷_}
-use Prim.Native.Nat.{ℕ}
+use Prim.Native.Nat.{ℕ, suc}
+use native.Mathlib.Omega.{arith}
 use lib.Dec.{eqb}
-use lib.ListN.{getD}
-use borrow.Author.Tests.{eqb-true, eq-eqb}
+use lib.ListN.{length, getD}
+use borrow.Author.Tests.{eqb-true, eq-eqb, ne-eqb}
 use Rattle.laws.specs.Lists.{all}
 use Rattle.laws.proofs.Lists.{same-test, all-of, all-at, and-true-split}
 use Rattle.meaning.specs.Events.{Parameter, ignored, names, Symbol, Event, Demand, never, demands, matches, demandsOf, compatible, consistent}
@@ -30,19 +31,37 @@ met-consistent σ (d ∷ ds) h =
     ap₂ _&&_ (all-of (compatible d) ds (λ c m. met-compatible σ d c g (all-at (agrees σ) k m))) (met-consistent σ ds k)
 
 -- the demands of a symbol's places are what the places ask
-demands-equal : (σ : Valuation) (ps : List Parameter) (xs : List ℕ) → all (agrees σ) (demandsOf ps xs) ≡ equalAll σ ps xs
-demands-equal σ [] xs = refl
-demands-equal σ (p ∷ ps) [] = refl
-demands-equal σ (ignored ∷ ps) (x ∷ xs) = demands-equal σ ps xs
-demands-equal σ (names v ∷ ps) (x ∷ xs) = ap (λ b. eqb (getD σ v 0) x && b) (demands-equal σ ps xs)
+eqb-suc : (a b : ℕ) → eqb (suc a) (suc b) ≡ eqb a b
+eqb-suc a b = same-test (eqb (suc a) (suc b)) (eqb a b) (λ h. let e = eqb-true (suc a) (suc b) h in eq-eqb a b (omega arith)) (λ h. eq-eqb (suc a) (suc b) (ap suc (eqb-true a b h)))
+
+swapped : (a b c : Bool) → (a && (b && c)) ≡ (b && (a && c))
+swapped true b c = refl
+swapped false true c = refl
+swapped false false c = refl
+
+demands-equal : (σ : Valuation) (ps : List Parameter) (xs : List ℕ) → (eqb (length ps) (length xs) && all (agrees σ) (demandsOf ps xs)) ≡ equalAll σ ps xs
+demands-equal σ [] [] = refl
+demands-equal σ [] (x ∷ xs) = rw (ne-eqb 0 (suc (length xs)) (λ e. omega arith))
+demands-equal σ (p ∷ ps) [] = rw (ne-eqb (suc (length ps)) 0 (λ e. omega arith))
+demands-equal σ (ignored ∷ ps) (x ∷ xs) = ap (λ b. b && all (agrees σ) (demandsOf ps xs)) (eqb-suc (length ps) (length xs)) ∙ demands-equal σ ps xs
+demands-equal σ (names v ∷ ps) (x ∷ xs) =
+    ap (λ b. b && (eqb (getD σ v 0) x && all (agrees σ) (demandsOf ps xs))) (eqb-suc (length ps) (length xs))
+    ∙ swapped (eqb (length ps) (length xs)) (eqb (getD σ v 0) x) (all (agrees σ) (demandsOf ps xs))
+    ∙ ap (λ b. eqb (getD σ v 0) x && b) (demands-equal σ ps xs)
 
 pub holds-satisfies : (s : Symbol) (e : Event) (σ : Valuation) → holds s e σ ≡ satisfies (constraintOf s e) σ
-unfolding holds constraintOf
+unfolding holds constraintOf matches
 holds-satisfies s e σ =
-    ap (λ b. matches s e && b) (sym (demands-equal σ (s .parameters) (e .args))) ∙ go (matches s e) (consistent ds) (met-consistent σ ds)
+    ap (λ b. eqb (s .kind) (e .kind) && b) (sym (demands-equal σ (s .parameters) (e .args)))
+    ∙ grouped (eqb (s .kind) (e .kind)) (eqb (length (s .parameters)) (length (e .args))) (all (agrees σ) ds)
+    ∙ go (matches s e) (consistent ds) (met-consistent σ ds)
   where
     ds : List Demand
     ds = demandsOf (s .parameters) (e .args)
+
+    grouped : (a b c : Bool) → (a && (b && c)) ≡ ((a && b) && c)
+    grouped true b c = refl
+    grouped false b c = refl
 
     go : (a b : Bool) → (all (agrees σ) ds ≡ true → b ≡ true) → (a && all (agrees σ) ds) ≡ satisfies (cond (a && b) (demands ds) never) σ
     go true true h = refl

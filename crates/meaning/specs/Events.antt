@@ -93,14 +93,15 @@ equalAt σ (names v) x = eqb (getD σ v 0) x
 
 -- the same at each place of a symbol
 abbrev pub equalAll : Valuation → List Parameter → List ℕ → Bool
-equalAll σ [] xs = true
-equalAll σ (p ∷ ps) [] = true
+equalAll σ [] [] = true
+equalAll σ [] (x ∷ xs) = false
+equalAll σ (p ∷ ps) [] = false
 equalAll σ (p ∷ ps) (x ∷ xs) = equalAt σ p x && equalAll σ ps xs
 
 -- The declarative meaning's own word for "the symbol's constraint on the event holds under the valuation": the symbol matches, and each
 -- bound place's variable equals its argument. That the matcher's constraint says the same is a law (../proofs/Holds.antt).
 unfoldable pub holds : Symbol → Event → Valuation → Bool
-holds s e σ = matches s e && equalAll σ (s .parameters) (e .args)
+holds s e σ = eqb (s .kind) (e .kind) && equalAll σ (s .parameters) (e .args)
 
 -- "An event concerns a valuation if some symbol's constraint holds under it."
 unfoldable pub concerns : List Symbol → Event → Valuation → Bool

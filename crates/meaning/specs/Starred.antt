@@ -191,3 +191,13 @@ mixedCalls = Call.event (event 2 (7 ∷ [])) true ∷ Call.event (event 1 []) tr
 
 abbrev pub mixedHeld : List Held
 mixedHeld = heldAt 2 (free [] ∷ []) ∷ heldAt 2 (bound 7 ∷ []) ∷ []
+
+-- what is held after a(2), a(1), a(2) of `vars d`, a 1 d, `match a a a`: "by position, then by values"
+abbrev pub thrice : Tracematch
+thrice = record { variables = 1; symbols = symbol 1 (d ∷ []) ∷ []; pattern = cat (lit 0) (cat (lit 0) (lit 0)) }
+
+abbrev pub thriceCalls : List Call
+thriceCalls = Call.event (event 1 (2 ∷ [])) true ∷ Call.event (event 1 (1 ∷ [])) true ∷ Call.event (event 1 (2 ∷ [])) true ∷ []
+
+abbrev pub thriceHeld : List Held
+thriceHeld = heldAt 1 (bound 1 ∷ []) ∷ heldAt 1 (bound 2 ∷ []) ∷ heldAt 2 (bound 2 ∷ []) ∷ []
