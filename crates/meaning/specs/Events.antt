@@ -98,8 +98,9 @@ equalAll σ [] (x ∷ xs) = false
 equalAll σ (p ∷ ps) [] = false
 equalAll σ (p ∷ ps) (x ∷ xs) = equalAt σ p x && equalAll σ ps xs
 
--- The declarative meaning's own word for "the symbol's constraint on the event holds under the valuation": the symbol matches, and each
--- bound place's variable equals its argument. That the matcher's constraint says the same is a law (../proofs/Holds.antt).
+-- The declarative meaning's own word for "the symbol's constraint on the event holds under the valuation": the kinds are equal, there are as
+-- many arguments as places, and each bound place's variable equals its argument. `matches` and the matcher's constraint do not enter; that
+-- they say the same is a law (../proofs/Holds.antt).
 unfoldable pub holds : Symbol → Event → Valuation → Bool
 holds s e σ = eqb (s .kind) (e .kind) && equalAll σ (s .parameters) (e .args)
 
