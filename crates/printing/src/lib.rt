@@ -1,6 +1,6 @@
-// The listing, for the programs `listing`, `refused`, `short` and `long`, which differ only in what the gate runs them on.
-// `print` reads `book.txt`; a refused text is printed as `book`, number, place. Otherwise it takes the events of
-// standard input, 20 bytes to each, and prints for each its number, the answer and the row count, then its rows.
+// The listing, for the programs `listing`, of `book.txt` and standard input, and `listings`, of files by their names.
+// A refused text is printed as `book`, number, place. Otherwise the events are taken, 20 bytes to each, and printed is for each its
+// number, the answer and the row count, then its rows.
 use book::Book;
 use state::State;
 use tally::Tally;
@@ -189,9 +189,9 @@ fn take_all(book: Book, run: Run, piece: &[u8], rows: &mut [u8], out: &mut [u8])
     }
 }
 
-// All records of standard input, in pieces of 64,000 bytes. A proved loop has to end, and nothing says that the input does, so the
+// All records of an open file, in pieces of 64,000 bytes. A proved loop has to end, and nothing says that the input does, so the
 // pieces are counted down, from a number that no run uses up.
-fn list(book: Book) {
+fn list(book: Book, events: i32) {
     let mut piece_space = [0u8; PIECE];
     let mut rows_space = io::large_buffer();
     let mut out_space = io::large_buffer();
@@ -207,7 +207,7 @@ fn list(book: Book) {
     let mut more = true;
     let mut turns = u64::MAX;
     while 0 < turns && more {
-        let n = io::read_full(0, piece);
+        let n = io::read_full(events, piece);
         run = take_all(book, run, &piece[..n], rows, out);
         more = n == piece.len();
         turns -= 1;
@@ -224,11 +224,12 @@ fn print_refused(number: usize, place: usize) {
     io::write_all(1, b"\n");
 }
 
-// The whole of it. No contract can say what is read or written: proved are safety and that it ends.
-pub fn print() {
-    let fd = os::open_read(b"book.txt");
+// The whole of it: the listing of the book in the named file, on the records of an open one. No contract can say what is read or
+// written: proved are safety and that it ends.
+fn print_open(book: &[u8], events: i32) {
+    let fd = os::open_read(book);
     if fd < 0 {
-        os::fail(b"book.txt");
+        os::fail(book);
         return;
     }
     let mut buffer = io::large_buffer();
@@ -239,8 +240,24 @@ pub fn print() {
     let number = book::number_of(a);
     if number == 0 {
         let b = r.book;
-        list(b);
+        list(b, events);
         return;
     }
     print_refused(number, book::place_of(a));
+}
+
+// The listing of `book.txt`, on the records of standard input.
+pub fn print() {
+    print_open(b"book.txt", 0);
+}
+
+// The listing of a book's file, on the records of another.
+pub fn print_files(book: &[u8], events: &[u8]) {
+    let fd = os::open_read(events);
+    if fd < 0 {
+        os::fail(events);
+        return;
+    }
+    print_open(book, fd);
+    libc::close(fd);
 }

@@ -2,84 +2,13 @@
 // For the buyer of the Bench level. No public function has a `requires`.
 use book::Reading;
 use book::ReadingAnswer;
-use grammar::Parsed;
 use table::Name;
-use table::Table;
 ghost use mathlib.Core.Path.{_≡_};
 ghost use mathlib.Core.Bool.{true};
-ghost use Prim.Native.Nat.{ℕ, _+_, _≤_};
-ghost use lib.ListN.{length};
+ghost use Prim.Native.Nat.{_+_};
 ghost use Rattle.form.specs.Text.{isBytes};
-ghost use Rattle.form.specs.Limits.{variableLimit};
-ghost use Rattle.form.specs.Parse as Parse;
-ghost use Rattle.form.specs.Reading.{variablesOf, lastLine, allBits, matchFrom};
-ghost use Rattle.table.specs.Tables.{nameOf, viewTable};
-ghost use Rattle.grammar.specs.Results.{parsedOf, Readable};
+ghost use Rattle.table.specs.Tables.{nameOf};
 ghost use Rattle.book.specs.Books.{reading, namePlace, nameBytes};
-
-// Behind the pattern: the LF, and nothing after it.
-fn last_line(s: &[u8], a: Parsed) -> Parsed
-    requires { ⌜ a .place ≤ length (now s) ⌝ }
-    ensures { λ r. ⌜ ((vars : ℕ → ℕ) (used : ℕ) (x : Parse.Parsed) → a ≡ parsedOf vars used x → r ≡ parsedOf vars used (lastLine (now (s .entry)) x)) ⌝ }
-{
-    if a.fault != 0 {
-        return a;
-    }
-    let p = a.place;
-    let q = text::spaces_end(s, p);
-    if text::peek(s, q) != text::LF {
-        return grammar::unfit(s, q);
-    }
-    if q + 1 == s.len() {
-        let x = a.piece;
-        return Parsed {
-            fault: 0,
-            place: q + 1,
-            piece: x,
-        };
-    }
-    grammar::failed(2, q + 1)
-}
-
-// Whether each of n variables has its bit.
-fn all_bits(n: usize, m: u32) -> bool
-    requires { ⌜ n ≤ variableLimit ⌝ }
-    ensures { λ r. ⌜ r ≡ allBits n m ⌝ }
-{
-    let mut v: usize = 0;
-    while v < n {
-        if (m >> v) & 1 != 1 {
-            return false;
-        }
-        v += 1;
-    }
-    true
-}
-
-// The pattern behind the word `match`, which ends at p, with answers 7 and 8.
-fn match_from(s: &[u8], t: Table, p: usize) -> Parsed
-    requires { ⌜ Readable (now s) t 0 p ⌝ }
-    ensures { λ r. ⌜ r ≡ parsedOf (variablesOf (viewTable t .table)) 0 (matchFrom (now (s .entry)) (viewTable t) p) ⌝ }
-{
-    if text::peek(s, p) != text::SPACE {
-        return grammar::failed(2, p);
-    }
-    let first = text::spaces_end(s, p + 1);
-    let whole = grammar::alternation(s, t, grammar::DEPTH, 0, p + 1);
-    let a = last_line(s, whole);
-    if a.fault != 0 {
-        return a;
-    }
-    let x = a.piece;
-    if x.empty {
-        return grammar::failed(7, first);
-    }
-    let n = t.variables;
-    if all_bits(n, x.bound) {
-        return a;
-    }
-    grammar::failed(8, first)
-}
 
 // The reading of any bytes; that what is lent is bytes, as the theorems about readings ask, a caller has from here.
 pub fn read(s: &[u8]) -> Reading
@@ -93,7 +22,7 @@ pub fn read(s: &[u8]) -> Reading
         return book::refused(l.fault, l.place);
     }
     let t = l.table;
-    let m = match_from(s, t, l.place);
+    let m = matching::match_from(s, t, l.place);
     if m.fault != 0 {
         return book::refused(m.fault, m.place);
     }

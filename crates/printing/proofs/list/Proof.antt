@@ -5,10 +5,10 @@ use Rattle.printing.proofs.list.Statement.{statement}
 use Rattle.printing.proofs.list.Tie as tie
 
 abbrev Inv-loop : tie.InvT-loop
-Inv-loop book piece₀ rows₀ out₀ run₀ more₀ turns₀ piece rows out run more turns = Unit {0}
+Inv-loop book events piece₀ rows₀ out₀ run₀ more₀ turns₀ piece rows out run more turns = Unit {0}
 
 abbrev μ-loop : tie.MeasureT-loop
-μ-loop book piece₀ rows₀ out₀ run₀ more₀ turns₀ piece rows out run more turns = turns
+μ-loop book events piece₀ rows₀ out₀ run₀ more₀ turns₀ piece rows out run more turns = turns
 
 large-buffer-requires : tie.Need-large-buffer-requires Inv-loop μ-loop
 large-buffer-requires c κs = search needs

@@ -1,4 +1,4 @@
--- `reader::match_from` meets its contract: each return is a branch of `matchFrom`, chosen by the tests that the code makes.
+-- `matching::match_from` meets its contract: each return is a branch of `matchFrom`, chosen by the tests that the code makes.
 use mathlib.Core.Path.{_≡_, sym, ap, _∙_}
 use mathlib.Core.Bool.{true, false}
 use Prim.Native.Nat.{ℕ, _+_, _≤_}
@@ -19,8 +19,8 @@ use Rattle.table.specs.declared.Table.{Table}
 use Rattle.grammar.specs.Results.{parsedOf}
 use Rattle.grammar.specs.declared.Parsed.{Parsed}
 use Rattle.grammar.proofs.Leaves.{place-same, good, bad, piece-same, failed-parsed}
-use Rattle.reader.proofs.match_from.Statement.{statement}
-use Rattle.reader.proofs.match_from.Tie as tie
+use Rattle.matching.proofs.match_from.Statement.{statement}
+use Rattle.matching.proofs.match_from.Tie as tie
 
 variables-length : (s : Bytes) (t : Table) → Ready s t → t .variables ≡ length (viewTable t .variables)
 unfolding tableOf

@@ -1,4 +1,4 @@
--- `reader::all_bits` meets its contract: the loop keeps what the variables from v on say.
+-- `matching::all_bits` meets its contract: the loop keeps what the variables from v on say.
 use mathlib.Core.Path.{_≡_, sym, ap, _∙_}
 use mathlib.Core.Bool.{false, _&&_}
 use mathlib.Core.List.{_∷_}
@@ -11,8 +11,8 @@ use Rattle.laws.specs.Bits.{bit}
 use Rattle.laws.specs.Lists.{all, numbers}
 use Rattle.laws.proofs.Bits.{bit-test}
 use Rattle.form.specs.Reading.{allBits}
-use Rattle.reader.proofs.all_bits.Statement.{statement}
-use Rattle.reader.proofs.all_bits.Tie as tie
+use Rattle.matching.proofs.all_bits.Statement.{statement}
+use Rattle.matching.proofs.all_bits.Tie as tie
 
 abbrev Inv-loop : tie.InvT-loop
 Inv-loop n m v₀ v = (v ≤ n) × (all (λ w. bit w m) (numbers v (n - v)) ≡ allBits n m)

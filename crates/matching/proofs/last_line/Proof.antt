@@ -1,4 +1,4 @@
--- `reader::last_line` meets its contract, branch by branch.
+-- `matching::last_line` meets its contract, branch by branch.
 use mathlib.Core.Path.{_∙_}
 use native.Mathlib.Omega.{arith}
 use borrow.Author.Needs.{needs}
@@ -7,8 +7,8 @@ use Rattle.form.specs.Reading.{lastLine}
 use Rattle.form.proofs.Scans.{spacesEnd-le}
 use Rattle.grammar.specs.Results.{parsedOf}
 use Rattle.grammar.proofs.Leaves.{place-same, good, bad, piece-same, failed-parsed, unfit-parsed}
-use Rattle.reader.proofs.last_line.Statement.{statement}
-use Rattle.reader.proofs.last_line.Tie as tie
+use Rattle.matching.proofs.last_line.Statement.{statement}
+use Rattle.matching.proofs.last_line.Tie as tie
 
 returns : tie.Need-returns
 unfolding lastLine

@@ -1,0 +1,17 @@
+// The listing of three pairs of files, each below its heading, for the gate to run it on what document 01's sample does not have.
+fn list(heading: &[u8], book: &[u8], events: &[u8]) {
+    io::write_all(1, heading);
+    printing::print_files(book, events);
+}
+
+// - A refused book, `match a*` of document 01, 7 at 23, with an event, which must print nothing.
+// - Book B1 with records that are refused, the last of them too short, and values of up to 32 bits: load(1,7), drop(1), a record of kind 0,
+//   drop(1), load(1,4294967295), load(1,65536), drop(1) with three rows, load(16909060,0), drop(16909060), load(2,8), then 19 bytes of a
+//   drop(2).
+// - Beyond one piece of input and of output: no variables, `sym a 1 _`, `sym b 1 _`, `match a b`, and 7,000 equal records (140,000 bytes);
+//   from the second on each gives the empty valuation, printed as `row` alone.
+fn main() {
+    list(b"refused\n", b"refused.txt", b"refused.events");
+    list(b"short\n", b"short.txt", b"short.events");
+    list(b"long\n", b"long.txt", b"long.events");
+}
