@@ -28,10 +28,10 @@ use Rattle.form.specs.Form.{Shape, Form, symbolNames, allNames, binds}
 use Rattle.form.specs.Scan.{run, isSpace}
 use Rattle.form.specs.Lines.{bytesAt, declaredTable}
 use Rattle.form.specs.Reading.{Outcome, readingOf}
-use Rattle.form.proofs.Accepted as Accepted
-use Rattle.form.proofs.Header.{header-names}
-use Rattle.form.proofs.Outcomes.{known}
-use Rattle.form.proofs.Shapes.{shape-found}
+use Rattle.parsing.proofs.Accepted as Accepted
+use Rattle.parsing.proofs.Header.{header-names}
+use Rattle.parsing.proofs.Outcomes.{known}
+use Rattle.parsing.proofs.Shapes.{shape-found}
 use Rattle.table.specs.Tables.{namesLimit, tableOf as heldTable, symbolOf, viewTable, nameOf, noName, spanOf, inside}
 use Rattle.table.proofs.Codes.{Fits, view-table}
 use Rattle.book.specs.Answers.{numberOf, placeOf, answerOf}

@@ -1,5 +1,5 @@
--- The answer to each call of a run over a read text, by the stated rules and in no other case; 9 never comes; a refusal leaves all.
--- For any book and state: the order of the checks, and the most rows.
+-- The answer to each call of a run over a read text, by the stated rules and in no other case; 9 never comes. What holds for any book and
+-- state is in Checks.
 use mathlib.Core.Path.{_≡_, refl, sym, ap, _∙_}
 use mathlib.Core.Bool.{true, false, true≢false}
 use mathlib.Core.List.{List, [], _∷_, _++_}
@@ -27,7 +27,7 @@ use Rattle.laws.proofs.Lists.{all-append}
 use Rattle.laws.proofs.Sets.{same-members}
 use Rattle.form.specs.Text.{Bytes, Declarations, tracematchOf}
 use Rattle.form.specs.Form.{Form}
-use Rattle.form.proofs.Accepted.{form-proper}
+use Rattle.parsing.proofs.Accepted.{form-proper}
 use Rattle.record.specs.Records.{isRecord, eventIn}
 use Rattle.book.specs.Books.{reading}
 use Rattle.writer.specs.RowBytes.{rowSize}

@@ -26,7 +26,7 @@ use Rattle.meaning.proofs.Bound.{none-left-free}
 use Rattle.form.specs.Text.{Bytes, Declarations, tracematchOf}
 use Rattle.form.specs.Limits.{textLimit}
 use Rattle.form.specs.Form.{Form}
-use Rattle.form.proofs.Accepted.{form-proper}
+use Rattle.parsing.proofs.Accepted.{form-proper}
 use Rattle.form.specs.Lines.{declaredTable}
 use Rattle.table.specs.Tables.{parameterOf, symbolOf, tableOf}
 use Rattle.record.specs.Records.{isRecord, eventIn}

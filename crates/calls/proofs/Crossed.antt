@@ -19,7 +19,7 @@ use Rattle.meaning.proofs.Crossed.{partner-rows}
 use Rattle.meaning.proofs.Orders.{valuation-order}
 use Rattle.form.specs.Text.{Bytes, Declarations, tracematchOf}
 use Rattle.form.specs.Form.{Form}
-use Rattle.form.proofs.Accepted.{form-proper}
+use Rattle.parsing.proofs.Accepted.{form-proper}
 use Rattle.record.specs.Records.{eventIn}
 use Rattle.book.specs.Books.{reading}
 use Rattle.calls.specs.Runs.{Call, Made, allBytes, runOf, acceptedIn, recordsOf, traceOf, Within, Partners, InOrder, Alike, Crossed}

@@ -13,7 +13,7 @@ use Rattle.meaning.specs.Runs as Runs
 use Rattle.meaning.proofs.Listed as Plain
 use Rattle.form.specs.Text.{Bytes, Declarations, tracematchOf}
 use Rattle.form.specs.Form.{Form}
-use Rattle.form.proofs.Accepted.{form-proper}
+use Rattle.parsing.proofs.Accepted.{form-proper}
 use Rattle.record.specs.Records.{eventIn}
 use Rattle.book.specs.Books.{reading}
 use Rattle.calls.specs.Runs.{Call, Made, allBytes, runOf, acceptedIn, traceOf, Within, Delivered}

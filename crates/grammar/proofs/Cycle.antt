@@ -16,10 +16,10 @@ use Rattle.form.specs.Scan.{at, spacesEnd, fail}
 use Rattle.form.specs.Parse as Parse
 use Rattle.form.specs.Parse.{enough, alternationFrom, sequenceFrom, atomFrom, itemOf, nameAtom, closed, failed, unfit, beginsItem}
 use Rattle.form.specs.Reading.{variablesOf}
-use Rattle.form.proofs.Scans.{spacesEnd-le, spacesEnd-ge}
-use Rattle.form.proofs.Faults.{before-end}
-use Rattle.form.proofs.Fuel.{Ends, alternation-ends, sequence-ends, atom-ends, item-ends, alternation-step, sequence-step, atom-step}
-use Rattle.form.proofs.Fuel.{alternationStep, sequenceStep, atomStep}
+use Rattle.parsing.proofs.Scans.{spacesEnd-le, spacesEnd-ge}
+use Rattle.parsing.proofs.Faults.{before-end}
+use Rattle.parsing.proofs.Fuel.{Ends, alternation-ends, sequence-ends, atom-ends, item-ends, alternation-step, sequence-step, atom-step}
+use Rattle.parsing.proofs.Fuel.{alternationStep, sequenceStep, atomStep}
 use Rattle.table.specs.Tables.{viewTable}
 use Rattle.table.specs.declared.Table.{Table}
 use Rattle.piece.specs.Pieces.{pieceOf, noPiece}

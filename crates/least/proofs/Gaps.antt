@@ -14,8 +14,8 @@ use Rattle.laws.proofs.Lists.{or-true-split, all-at, all-of, or-false-split, ei
 use Rattle.form.specs.Text.{Bytes, isBytes, space, lf, Span}
 use Rattle.form.specs.Scan.{Step, go, fail, at, pastEnd, isSpace, isWordByte, wordEnd, spacesEnd, nextWord}
 use Rattle.form.specs.Lines.{wantWord}
-use Rattle.form.proofs.Scans.{run-end, at-end, at-inside, wordEnd-le, spacesEnd-le, spacesEnd-ge}
-use Rattle.form.proofs.TokenScan.{by-equal, inside-of, here-space}
+use Rattle.parsing.proofs.Scans.{run-end, at-end, at-inside, wordEnd-le, spacesEnd-le, spacesEnd-ge}
+use Rattle.parsing.proofs.TokenScan.{by-equal, inside-of, here-space}
 use Rattle.fault.specs.Places.{Ends}
 use Rattle.least.proofs.Spots.{run-inside}
 use Rattle.least.proofs.HeaderPrefix.{Gap, HeaderPrefix, opened, variable, line, named, kinded, argued}

@@ -15,8 +15,8 @@ use Rattle.form.specs.Form.{sameWord}
 use Rattle.form.specs.Scan.{Step, go, fail, at, wordEnd, kindOf}
 use Rattle.form.specs.Lines.{spanOf, declareFault, argumentFault, Table, Variables, variablesFrom, Arguments, argumentsFrom, wantWord}
 use Rattle.form.specs.Lines.{SymbolRead, noSymbolRead, kindFrom, symbolFrom, noTable, withSymbol, Lines, linesFrom, linesOf}
-use Rattle.form.proofs.Scans.{same-word}
-use Rattle.form.proofs.TokenScan.{by-equal}
+use Rattle.parsing.proofs.Scans.{same-word}
+use Rattle.parsing.proofs.TokenScan.{by-equal}
 use Rattle.fault.specs.Places.{wordAt}
 use Rattle.least.proofs.HeaderPrefix.{HeaderPrefix, opened, variable, line, named, kinded, argued, HeaderStop, Matched}
 use Rattle.least.proofs.HeaderPrefix.{noVars, badVariable, fifthVariable, badName, badKind, badArgument, fifthArgument, badLine, seventeenth}

@@ -15,8 +15,8 @@ use Rattle.laws.proofs.Lists.{and-true-split}
 use Rattle.form.specs.Text.{Bytes, space, lf, varsWord, symWord, matchWord, Span}
 use Rattle.form.specs.Scan.{at, run, isSpace, isWordByte, wordEnd, spacesEnd}
 use Rattle.form.specs.Lines.{spanOf}
-use Rattle.form.proofs.Scans.{run-step, run-stop}
-use Rattle.form.proofs.TokenScan.{inside-of}
+use Rattle.parsing.proofs.Scans.{run-step, run-stop}
+use Rattle.parsing.proofs.TokenScan.{inside-of}
 use Rattle.fault.specs.Places.{On, Ends, spotAt, Word, wordAt, Header}
 use Rattle.fault.specs.Fault.{WordFault, Fault, Declares, IsArgument, isNameForm}
 use Rattle.least.proofs.Spots.{spot-zero, spot-step, word-end, word-bytes, word-spot, word-same}

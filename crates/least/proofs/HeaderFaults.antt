@@ -15,8 +15,8 @@ use Rattle.form.specs.Text.{Bytes, isBytes, space, lf, varsWord, symWord, match
 use Rattle.form.specs.Form.{sameWord}
 use Rattle.form.specs.Scan.{at, isWordByte, wordEnd}
 use Rattle.form.specs.Lines.{indexOf}
-use Rattle.form.proofs.Scans.{same-word}
-use Rattle.form.proofs.TokenScan.{inside-of}
+use Rattle.parsing.proofs.Scans.{same-word}
+use Rattle.parsing.proofs.TokenScan.{inside-of}
 use Rattle.fault.specs.Places.{spotAt, Word, wordAt, Header, PatternLine}
 use Rattle.fault.specs.Fault.{WordFault, Declares, IsArgument, VariableNamed, SymbolNamed, Fault, Least}
 use Rattle.least.proofs.Spots.{spot-zero, spot-step, spot-later, word-end, word-bytes, word-spot, word-same, word-before}

@@ -23,11 +23,11 @@ use Rattle.form.specs.Lines.{indexOf}
 use Rattle.form.specs.Parse.{Parsed, failed, postfixOn, itemOf, nameAtom, unfit, closed, beginsItem, joined}
 use Rattle.form.specs.Parse.{alternationFrom, sequenceFrom, atomFrom, enough, patternFrom}
 use Rattle.form.specs.Reading.{lastLine}
-use Rattle.form.proofs.Scans.{spacesEnd-ge, at-end}
-use Rattle.form.proofs.TokenScan.{by-equal, inside-of}
-use Rattle.form.proofs.Course.{drop-next}
-use Rattle.form.proofs.Complete.{isPostfix}
-use Rattle.form.proofs.Fuel.{item-ends, sequence-ends, atom-ends}
+use Rattle.parsing.proofs.Scans.{spacesEnd-ge, at-end}
+use Rattle.parsing.proofs.TokenScan.{by-equal, inside-of}
+use Rattle.parsing.proofs.Course.{drop-next}
+use Rattle.parsing.proofs.Complete.{isPostfix}
+use Rattle.parsing.proofs.Fuel.{item-ends, sequence-ends, atom-ends}
 use Rattle.least.proofs.PatternPrefix.{PatternPrefix, Blocked, PatternStop, Stopped, Finished}
 
 -- the bytes that each level goes on with: none; the signs behind an atom; what begins an item; the bar

@@ -18,9 +18,9 @@ use Rattle.form.specs.Tokens.{Token, name, sign, tokens}
 use Rattle.form.specs.Phrase.{opening, closing, bar, asterisk, plusSign, question}
 use Rattle.form.specs.Scan.{at, pastEnd, isSpace, part, spacesEnd, nameEnd}
 use Rattle.form.specs.Lines.{indexOf}
-use Rattle.form.proofs.Complete.{isPostfix}
-use Rattle.form.proofs.Scans.{spacesEnd-le, spacesEnd-ge, nameEnd-le, nameEnd-ge}
-use Rattle.form.proofs.TokenScan.{inside-of}
+use Rattle.parsing.proofs.Complete.{isPostfix}
+use Rattle.parsing.proofs.Scans.{spacesEnd-le, spacesEnd-ge, nameEnd-le, nameEnd-ge}
+use Rattle.parsing.proofs.TokenScan.{inside-of}
 use Rattle.fault.specs.Places.{spotAt, On, TokenAt, before, nameAt, tokenAt, isName, isSign, occurrences, signs, Begins}
 use Rattle.fault.specs.Fault
 use Rattle.fault.specs.Fault.{TokenFault, Fault}

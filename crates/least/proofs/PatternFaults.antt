@@ -13,9 +13,9 @@ use Rattle.form.specs.Text.{Bytes, isBytes, space, lf, isLower, Span}
 use Rattle.form.specs.Tokens.{name, sign}
 use Rattle.form.specs.Phrase.{opening, closing}
 use Rattle.form.specs.Scan.{at, pastEnd, isSpace, spacesEnd}
-use Rattle.form.proofs.Scans.{at-end}
-use Rattle.form.proofs.Scans as Scans
-use Rattle.form.proofs.TokenScan.{inside-of, here-space}
+use Rattle.parsing.proofs.Scans.{at-end}
+use Rattle.parsing.proofs.Scans as Scans
+use Rattle.parsing.proofs.TokenScan.{inside-of, here-space}
 use Rattle.fault.specs.Places.{TokenAt, before, nameAt, tokenAt, Begins}
 use Rattle.fault.specs.Fault
 use Rattle.fault.specs.Fault.{SymbolNamed, TokenFault, Fault, Least, NoFault}

@@ -12,7 +12,7 @@ use Rattle.form.specs.Text.{Bytes, lf, isLower, Span}
 use Rattle.form.specs.Phrase.{opening, closing, bar}
 use Rattle.form.specs.Scan.{at, pastEnd, part, spacesEnd, nameEnd}
 use Rattle.form.specs.Lines.{indexOf}
-use Rattle.form.proofs.Complete.{isPostfix}
+use Rattle.parsing.proofs.Complete.{isPostfix}
 
 module _ (s : Bytes) (symbols : List Span) (start : ℕ) where
   -- `PatternPrefix p o e k`: from start to p all tokens can stand; o parentheses are open, e says whether an item may end here, k names were read

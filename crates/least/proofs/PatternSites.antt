@@ -12,7 +12,7 @@ use lib.Dec.{eqb}
 use lib.ListN.{length}
 use Rattle.form.specs.Text.{Bytes, space, lf}
 use Rattle.form.specs.Scan.{at}
-use Rattle.form.proofs.TokenScan.{inside-of}
+use Rattle.parsing.proofs.TokenScan.{inside-of}
 use Rattle.fault.specs.Places.{Spot, passed, spotAt, On, Ends, Header, PatternLine, TokenAt, before, Pattern}
 use Rattle.fault.specs.Fault
 use Rattle.fault.specs.Fault.{TokenFault, Fault}

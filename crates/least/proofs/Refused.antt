@@ -16,9 +16,9 @@ use Rattle.form.specs.Scan.{at}
 use Rattle.form.specs.Lines.{linesOf}
 use Rattle.form.specs.Parse.{Parsed}
 use Rattle.form.specs.Reading.{Outcome, matchFrom, readingOf}
-use Rattle.form.proofs.Accepted as Accepted
-use Rattle.form.proofs.Faults.{before-end}
-use Rattle.form.proofs.Outcomes.{Whole, known, patternOf, bindsAll, outcome}
+use Rattle.parsing.proofs.Accepted as Accepted
+use Rattle.parsing.proofs.Faults.{before-end}
+use Rattle.parsing.proofs.Outcomes.{Whole, known, patternOf, bindsAll, outcome}
 use Rattle.book.specs.Answers.{numberOf, placeOf}
 use Rattle.book.specs.Books.{reading}
 use Rattle.book.proofs.Bench as Bench

@@ -10,7 +10,7 @@ use lib.ListN.{length, drop, length-drop}
 use lib.Seq.{length-take-le}
 use Rattle.form.specs.Text.{Bytes, space, lf, matchWord}
 use Rattle.form.specs.Scan.{at, isWordByte, wordEnd, spacesEnd}
-use Rattle.form.proofs.TokenScan.{inside-of}
+use Rattle.parsing.proofs.TokenScan.{inside-of}
 use Rattle.fault.specs.Places.{On, Ends, spotAt, Word, wordAt, Header, PatternLine}
 use Rattle.fault.specs.Fault.{WordFault, TokenFault, WordsMissing, Fault, Least}
 use Rattle.fault.specs.Fault.{notVars, notSym, seventeenth, noName, longName, already, noKind, noArgument, longArgument}

@@ -15,8 +15,8 @@ use lib.Seq.{take-suc, getD-drop}
 use Rattle.laws.proofs.Lists.{and-true-split, either, all-taken}
 use Rattle.form.specs.Text.{Bytes, space, lf}
 use Rattle.form.specs.Scan.{at, pastEnd, run, isWordByte, wordEnd}
-use Rattle.form.proofs.Scans.{wordEnd-le, run-le, run-end, run-step}
-use Rattle.form.proofs.Words.{run-split}
+use Rattle.parsing.proofs.Scans.{wordEnd-le, run-le, run-end, run-step}
+use Rattle.parsing.proofs.Words.{run-split}
 use Rattle.fault.specs.Places.{Spot, outset, passed, passedAll, spotAt, Word}
 
 -- x does not lie behind y: by line, then by words begun

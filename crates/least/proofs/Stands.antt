@@ -17,8 +17,8 @@ use Rattle.form.specs.Text.{Bytes}
 use Rattle.form.specs.Tokens.{Token, name, sign}
 use Rattle.form.specs.Phrase
 use Rattle.form.specs.Phrase.{Phrase, Level, item, alternation, opening, closing, bar, asterisk, plusSign, question}
-use Rattle.form.proofs.TokenScan.{by-equal}
-use Rattle.form.proofs.Complete.{isPostfix}
+use Rattle.parsing.proofs.TokenScan.{by-equal}
+use Rattle.parsing.proofs.Complete.{isPostfix}
 use Rattle.fault.specs.Places.{Pattern, Begins}
 
 -- behind some tokens: one of them cannot stand; or so many parentheses are open, and an item may end here or may not

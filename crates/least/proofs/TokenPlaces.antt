@@ -16,9 +16,9 @@ use Rattle.laws.proofs.Lists.{and-true-split, and-false-split, or-false-split}
 use Rattle.form.specs.Text.{Bytes, space, isLower, isDigit, isNameByte}
 use Rattle.form.specs.Tokens.{name, sign, tokensAfter, tokens}
 use Rattle.form.specs.Scan.{at, pastEnd, run, isSpace, part, spacesEnd, nameEnd}
-use Rattle.form.proofs.TokenScan.{apart, tokens-apart}
-use Rattle.form.proofs.Words.{run-split}
-use Rattle.form.proofs.Scans.{run-step, run-behind, inside-of, nameEnd-ge}
+use Rattle.parsing.proofs.TokenScan.{apart, tokens-apart}
+use Rattle.parsing.proofs.Words.{run-split}
+use Rattle.parsing.proofs.Scans.{run-step, run-behind, inside-of, nameEnd-ge}
 use Rattle.fault.specs.Places.{inName, nameAt}
 use Rattle.least.proofs.Spots.{run-inside}
 

@@ -15,11 +15,11 @@ use Rattle.form.specs.Text.{Bytes, isLower, isNameByte, ignoredWord, decimal, S
 use Rattle.form.specs.Form.{sameWord}
 use Rattle.form.specs.Scan.{at, isWordByte, run, part, wordEnd, nameFault, kindOf}
 use Rattle.form.specs.Lines.{bytesAt, spanOf, indexOf, declareFault, argumentFault}
-use Rattle.form.proofs.Scans.{same-word, wordEnd-ge}
-use Rattle.form.proofs.Words as words
-use Rattle.form.proofs.Words.{word-here, word-part, run-over, run-passes, byte-inside}
-use Rattle.form.proofs.Names.{at-first, fault-at, stops-name, lower-name-byte, known, index-of, indexIn, index-known}
-use Rattle.form.proofs.Numerals.{kindIn, kind-of, kind-read, kind-found}
+use Rattle.parsing.proofs.Scans.{same-word, wordEnd-ge}
+use Rattle.parsing.proofs.Words as words
+use Rattle.parsing.proofs.Words.{word-here, word-part, run-over, run-passes, byte-inside}
+use Rattle.parsing.proofs.Names.{at-first, fault-at, stops-name, lower-name-byte, known, index-of, indexIn, index-known}
+use Rattle.parsing.proofs.Numerals.{kindIn, kind-of, kind-read, kind-found}
 use Rattle.fault.specs.Places.{Word, wordAt}
 use Rattle.fault.specs.Fault.{isNameForm}
 use Rattle.least.proofs.Spots.{word-end}

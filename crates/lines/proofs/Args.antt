@@ -19,7 +19,7 @@ use Rattle.form.specs.Lines.{bytesAt, indexOf, wantWord, Arguments, argumentFau
 use Rattle.meaning.specs.Events as Events
 use Rattle.meaning.specs.Events.{Parameter}
 use Rattle.meaning.specs.Meaning.{noSymbol}
-use Rattle.form.proofs.Words.{Gap, gap, byte-inside}
+use Rattle.parsing.proofs.Words.{Gap, gap, byte-inside}
 use Rattle.text.specs.Steps.{stepOf}
 use Rattle.text.specs.declared.Step.{Step}
 use Rattle.table.specs.Tables.{parameterOf, symbolOf, nameOf, tableOf, viewSymbol, viewTable, spanOf, inside, Ready}

@@ -5,8 +5,8 @@ use native.Mathlib.Omega.{arith}
 use lib.ListN.{length}
 use Rattle.form.specs.Text.{Bytes, space, lf}
 use Rattle.form.specs.Scan.{wordEnd, Step, nextWord}
-use Rattle.form.proofs.Scans.{wordEnd-ge, wordEnd-le}
-use Rattle.form.proofs.Words.{Gap, ended, next, failed, gap, byte-inside}
+use Rattle.parsing.proofs.Scans.{wordEnd-ge, wordEnd-le}
+use Rattle.parsing.proofs.Words.{Gap, ended, next, failed, gap, byte-inside}
 
 pub word-within : (s : Bytes) (q e : ℕ) → e ≡ wordEnd s q → q ≤ length s → (q ≤ e) × (e ≤ length s)
 word-within s q e i l = rw i (wordEnd-ge s q, wordEnd-le s q l)

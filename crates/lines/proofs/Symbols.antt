@@ -9,7 +9,7 @@ use Rattle.form.specs.Text.{Bytes, symWord, matchWord}
 use Rattle.form.specs.Form.{sameWord}
 use Rattle.form.specs.Scan.{Step, go, fail, part, wordEnd}
 use Rattle.form.specs.Lines.{Table, spanOf, declareFault, wantWord, noSymbolRead, kindFrom, symbolFrom, withSymbol, linesFrom}
-use Rattle.form.proofs.Scans.{same-word}
+use Rattle.parsing.proofs.Scans.{same-word}
 use Rattle.lines.specs.declared.SymbolRead.{SymbolRead}
 use Rattle.lines.specs.Results.{symbolRead}
 

@@ -1,5 +1,5 @@
 -- Runs on plain data, their trace and their rows, and what demands 2 and 3 say of them: document 01, "Crossed messages". A step
--- to the runs of the crate watch, which are lists of event calls over bytes. Theorems: ../proofs/Listed.antt, ../proofs/Crossed.antt.
+-- to the runs of the crate calls, which are lists of event calls over bytes. Theorems: ../proofs/Listed.antt, ../proofs/Crossed.antt.
 use mathlib.Core.Path.{_≡_}
 use mathlib.Core.Bool.{Bool, true, false}
 use mathlib.Core.List.{List, [], _∷_, List·Memᴰ}
@@ -70,7 +70,7 @@ pub record Listed (tm : Tracematch) (t : List Event) (n : ℕ) (l : List Valuati
   pub exact : (σ : Valuation) → List·Memᴰ σ l ↔ Row tm t n σ
 
 -- "Partners are accepted events with the same 20 bytes, one in each run; each accepted event has exactly one partner."
--- What pairs up (events here, their records in the crate watch) is counted from 0; d is a default that is never used.
+-- What pairs up (events here, their records in the crate calls) is counted from 0; d is a default that is never used.
 pub record Pairing {A : Type 0} (d : A) (t u : List A) : Type 0 where
   pub to : ℕ → ℕ
   pub back : ℕ → ℕ

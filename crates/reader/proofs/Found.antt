@@ -13,7 +13,7 @@ use Rattle.meaning.specs.Events.{Symbol}
 use Rattle.meaning.specs.Book.{soundParameter, soundSymbol}
 use Rattle.form.specs.Text.{Bytes, Span, SymbolLine, Declarations, isName, symbolOf, variableSpans, symbolSpans, symLine}
 use Rattle.form.specs.Lines.{linesOf, bytesAt, declaredTable}
-use Rattle.form.proofs.Header.{Header, header-read, header-found, header-names}
+use Rattle.parsing.proofs.Header.{Header, header-read, header-found, header-names}
 use Rattle.table.specs.Tables.{tableOf, viewTable, inside, Ready}
 use Rattle.table.proofs.Codes.{Fits, view-table}
 

@@ -13,8 +13,8 @@ use Rattle.laws.proofs.Parts.{pad-at}
 use Rattle.form.specs.Text.{Bytes, Span}
 use Rattle.form.specs.Lines.{Table}
 use Rattle.form.specs.Reading.{readingOf}
-use Rattle.form.proofs.Accepted.{refused-empty}
-use Rattle.form.proofs.Outcomes.{known}
+use Rattle.parsing.proofs.Accepted.{refused-empty}
+use Rattle.parsing.proofs.Outcomes.{known}
 use Rattle.table.specs.Tables.{tableOf, viewTable, nameOf, noName, inside, Ready}
 use Rattle.table.proofs.Codes.{Fits, ready-fits, ready-none}
 use Rattle.book.specs.Books.{emptyBook, bookFor, readingFor, reading, namePlace}

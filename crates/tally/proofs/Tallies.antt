@@ -1,5 +1,5 @@
--- Document 01: "Answers 9 to 13 to an event add one refused and leave the other two": a tally of 64-bit counters with one refused event
--- more. For the buyer, beside `refused-stays` of the crate watch.
+-- Document 01: "Answers 9 to 13 to an event add one refused and leave the other two"; "a counter stops at the largest 64-bit value". For the
+-- buyer, beside `refused-stays` of the crate calls.
 use mathlib.Core.Path.{_≡_, _∙_}
 use Prim.Native.Nat.{ℕ, _+_, _-_, _^_, _≤_, _<_}
 use native.Mathlib.Omega.{arith}

@@ -15,7 +15,7 @@ use Rattle.laws.proofs.Lists.{and-true-split}
 use Rattle.form.specs.Text.{Bytes, isDigit}
 use Rattle.form.specs.Form.{sameWord}
 use Rattle.form.specs.Scan.{at, pastEnd, part, value}
-use Rattle.form.proofs.Scans.{same-word}
+use Rattle.parsing.proofs.Scans.{same-word}
 
 module _ (s : Bytes) (p e : ℕ) where
   pub part-length : e ≤ length s → length (part s p e) ≡ e - p

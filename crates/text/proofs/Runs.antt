@@ -13,7 +13,7 @@ use mir.Syntax.{w8}
 use lib.ListN.{length, getD, drop, drop-of-length-le}
 use Rattle.form.specs.Text.{Bytes}
 use Rattle.form.specs.Scan.{at, pastEnd, run}
-use Rattle.form.proofs.Scans.{at-end, run-step, run-stop}
+use Rattle.parsing.proofs.Scans.{at-end, run-step, run-stop}
 
 -- inside, what stands at a place is no matter of the default
 pub at-byte : (s : Bytes) (i : ℕ) → i < length s → at s i ≡ getD s i 0

@@ -4,7 +4,7 @@ use native.Mathlib.Omega.{arith}
 use borrow.Author.Needs.{needs}
 use borrow.Author.Tests.{eq-eqb, ne-eqb}
 use Rattle.form.specs.Parse as Parse
-use Rattle.form.proofs.Scans.{spacesEnd-le}
+use Rattle.parsing.proofs.Scans.{spacesEnd-le}
 use Rattle.grammar.specs.Results.{parsedOf}
 use Rattle.grammar.proofs.Leaves.{place-same, good, bad, piece-same, unfit-parsed}
 use Rattle.grammar.proofs.closed.Statement.{statement}

@@ -16,7 +16,7 @@ use Rattle.pattern.specs.Regex.{Regex, star, plus, opt}
 use Rattle.form.specs.Text.{Bytes}
 use Rattle.form.specs.Scan.{at, go}
 use Rattle.form.specs.Parse as Parse
-use Rattle.form.proofs.Scans.{inside-of}
+use Rattle.parsing.proofs.Scans.{inside-of}
 use Rattle.piece.specs.Pieces.{pieceOf}
 use Rattle.grammar.specs.Results.{parsedOf, isSign, signedTree}
 use Rattle.grammar.proofs.Leaves.{place-same, good, bad, piece-same}

@@ -21,7 +21,7 @@ use Rattle.form.specs.Scan.{go, fail, nameEnd, part}
 use Rattle.form.specs.Lines.{indexOf}
 use Rattle.form.specs.Parse as Parse
 use Rattle.form.specs.Reading.{variablesOf}
-use Rattle.form.proofs.Scans.{nameEnd-ge, nameEnd-le}
+use Rattle.parsing.proofs.Scans.{nameEnd-ge, nameEnd-le}
 use Rattle.table.specs.declared.Symbol.{Symbol}
 use Rattle.table.specs.declared.Table.{Table}
 use Rattle.table.specs.Tables.{symbolOf, tableOf, viewSymbol, viewTable, inside, Ready}

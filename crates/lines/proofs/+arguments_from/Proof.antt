@@ -9,7 +9,7 @@ use lib.ListN.{length}
 use Rattle.meaning.specs.Events.{Parameter}
 use Rattle.form.specs.Scan.{nextWord}
 use Rattle.form.specs.Lines.{argumentOf}
-use Rattle.form.proofs.Scans.{wordEnd-ge, wordEnd-le}
+use Rattle.parsing.proofs.Scans.{wordEnd-ge, wordEnd-le}
 use Rattle.table.specs.Tables.{viewTable}
 use Rattle.lines.proofs.Args.{step-back, next-inside, arguments-fault, arguments-end, arguments-full, argument-wrong, argument-next}
 use Rattle.lines.proofs.Args.{arguments-kept, more-kept, more-reads}

@@ -7,7 +7,7 @@ use borrow.Author.Needs.{needs}
 use lib.ListN.{length}
 use Rattle.form.specs.Scan.{fail}
 use Rattle.form.specs.Lines.{wantWord, argumentsFrom, noSymbolRead}
-use Rattle.form.proofs.Scans.{wordEnd-ge, wordEnd-le}
+use Rattle.parsing.proofs.Scans.{wordEnd-ge, wordEnd-le}
 use Rattle.table.specs.Tables.{spanOf, viewTable}
 use Rattle.lines.specs.Results.{argumentsRead, symbolRead}
 use Rattle.lines.proofs.Args.{step-back, kind-le, want-inside, bare-count, bare-kept, bare-reads, kind-fault, kind-wrong, kind-stopped, kind-whole}

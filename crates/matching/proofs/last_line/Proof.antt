@@ -4,7 +4,7 @@ use native.Mathlib.Omega.{arith}
 use borrow.Author.Needs.{needs}
 use borrow.Author.Tests.{eq-eqb, ne-eqb}
 use Rattle.form.specs.Reading.{lastLine}
-use Rattle.form.proofs.Scans.{spacesEnd-le}
+use Rattle.parsing.proofs.Scans.{spacesEnd-le}
 use Rattle.grammar.specs.Results.{parsedOf}
 use Rattle.grammar.proofs.Leaves.{place-same, good, bad, piece-same, failed-parsed, unfit-parsed}
 use Rattle.matching.proofs.last_line.Statement.{statement}

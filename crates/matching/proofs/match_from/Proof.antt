@@ -11,8 +11,8 @@ use Rattle.form.specs.Text.{Bytes}
 use Rattle.form.specs.Scan.{at, fail, spacesEnd}
 use Rattle.form.specs.Parse as Parse
 use Rattle.form.specs.Reading.{variablesOf, lastLine, allBits, matchFrom}
-use Rattle.form.proofs.Faults.{before-end}
-use Rattle.form.proofs.Fuel.{alternation-ends}
+use Rattle.parsing.proofs.Faults.{before-end}
+use Rattle.parsing.proofs.Fuel.{alternation-ends}
 use Rattle.piece.specs.Pieces.{pieceOf}
 use Rattle.table.specs.Tables.{viewTable, tableOf, Ready}
 use Rattle.table.specs.declared.Table.{Table}

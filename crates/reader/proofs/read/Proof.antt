@@ -16,8 +16,8 @@ use Rattle.form.specs.Lines as Lines
 use Rattle.form.specs.Lines.{linesOf}
 use Rattle.form.specs.Parse as Parse
 use Rattle.form.specs.Reading.{refused, readingOf, variablesOf, matchFrom}
-use Rattle.form.proofs.Accepted as Accepted
-use Rattle.form.proofs.Header.{lines-place}
+use Rattle.parsing.proofs.Accepted as Accepted
+use Rattle.parsing.proofs.Header.{lines-place}
 use Rattle.table.specs.Tables.{tableOf, viewTable}
 use Rattle.table.specs.declared.Table.{Table}
 use Rattle.lines.specs.Results.{linesRead}

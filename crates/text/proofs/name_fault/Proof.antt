@@ -3,7 +3,7 @@ use native.Mathlib.Omega.{arith}
 use borrow.Author.Needs.{needs}
 use borrow.Author.Tests.{eq-eqb, ne-eqb, le-leb, lt-leb}
 use Rattle.form.specs.Scan.{nameFault}
-use Rattle.form.proofs.Scans.{nameEnd-ge}
+use Rattle.parsing.proofs.Scans.{nameEnd-ge}
 use Rattle.text.proofs.name_fault.Statement.{statement}
 use Rattle.text.proofs.name_fault.Tie as tie
 

@@ -6,7 +6,7 @@ use native.Mathlib.Omega.{arith}
 use borrow.Author.Needs.{needs}
 use borrow.Author.Tests.{eq-eqb, ne-eqb}
 use Rattle.form.specs.Scan.{nextWord}
-use Rattle.form.proofs.Scans.{spacesEnd-ge}
+use Rattle.parsing.proofs.Scans.{spacesEnd-ge}
 use Rattle.text.specs.Steps.{stepOf}
 use Rattle.text.proofs.next_word.Statement.{statement}
 use Rattle.text.proofs.next_word.Tie as tie

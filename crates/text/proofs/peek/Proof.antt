@@ -1,7 +1,7 @@
 -- `text::peek` meets its contract: inside the byte, past the end 256.
 use borrow.Author.Needs.{needs}
 use mathlib.Core.Path.{sym, _∙_}
-use Rattle.form.proofs.Scans.{at-end}
+use Rattle.parsing.proofs.Scans.{at-end}
 use Rattle.text.proofs.Runs.{at-byte}
 use Rattle.text.proofs.peek.Statement.{statement}
 use Rattle.text.proofs.peek.Tie as tie

@@ -10,9 +10,9 @@ use lib.ListN.{length, getD, take, drop, length-append, take-append-drop, length
 use lib.Seq.{drop-drop, getD-drop, take-at, drop-append-seam}
 use Rattle.laws.specs.Lists.{all}
 use Rattle.laws.proofs.Lists.{and-true-split}
 use Rattle.form.specs.Text.{Bytes, space, lf}
-use Rattle.form.proofs.Scans.{run-le}
+use Rattle.parsing.proofs.Scans.{run-le}
 use Rattle.form.specs.Scan.{Step, go, fail, at, pastEnd, run, part, isSpace, isWordByte, spacesEnd, wordEnd, nextWord}
 
 -- a run over bytes that pass, up to one that does not
 pub run-over : (f : ℕ → Bool) (w rest : Bytes) → all f w ≡ true → run f rest ≡ 0 → run f (w ++ rest) ≡ length w

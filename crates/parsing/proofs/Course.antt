@@ -12,17 +12,17 @@ use borrow.Author.Tests.{ltb-true, ltb-false, leb-false}
 use Rattle.laws.proofs.Lists.{or-false-split, either}
 use Rattle.pattern.specs.Regex.{Regex, lit, cat, alt, star, plus, opt}
 use Rattle.pattern.specs.Positions.{size}
 use Rattle.form.specs.Text.{Bytes, space, isLower, Span}
 use Rattle.form.specs.Tokens.{Token, name, sign, tokens}
 use Rattle.form.specs.Phrase
 use Rattle.form.specs.Phrase.{Phrase, Level, atom, item, sequence, alternation, opening, closing, bar, asterisk, plusSign, question}
 use Rattle.form.specs.Form.{sameWord}
 use Rattle.form.specs.Scan.{go, fail, at, pastEnd, spacesEnd, nameEnd, part}
 use Rattle.form.specs.Lines.{bytesAt, indexOf}
 use Rattle.form.specs.Parse.{Parsed, failed, postfixOn, itemOf, nameAtom, unfit, closed, beginsItem, joined}
 use Rattle.form.specs.Parse.{alternationFrom, sequenceFrom, atomFrom}
-use Rattle.form.proofs.Scans.{spacesEnd-le, nameEnd-le, same-word}
-use Rattle.form.proofs.TokenScan.{by-equal, inside-of, tokensAt, word-token, sign-token}
+use Rattle.parsing.proofs.Scans.{spacesEnd-le, nameEnd-le, same-word}
+use Rattle.parsing.proofs.TokenScan.{by-equal, inside-of, tokensAt, word-token, sign-token}
 
 -- the number of a name, where it is found, is that name's
 index-found : (s w : Bytes) (symbols : List Span) → indexOf s symbols w < length symbols

@@ -12,15 +12,15 @@ use Rattle.laws.specs.Lists.{all, gather}
 use Rattle.laws.proofs.Lists.{and-true-split}
 use Rattle.meaning.specs.Events.{Symbol}
 use Rattle.meaning.specs.Book.{soundSymbol}
 use Rattle.form.specs.Text.{Bytes, lf, isName, symWord, matchWord, Span, spaced, symLine, symbolSpans, SymbolLine, symbolOf}
 use Rattle.form.specs.Form.{sameWord, distinct}
 use Rattle.form.specs.Scan.{go, run, isWordByte}
 use Rattle.form.specs.Lines.{bytesAt, Table, Lines, symbolFrom, linesFrom}
-use Rattle.form.proofs.Scans.{same-word}
-use Rattle.form.proofs.Words.{Word, word-end, word-part, word-here, word-inside, behind}
-use Rattle.form.proofs.Names.{distinct-fresh, distinct-snoc}
-use Rattle.form.proofs.VarsLine.{Outcome, fine, faulty, outcome-on, spanAt, names-snoc, spaced-stops}
-use Rattle.form.proofs.SymbolLines.{lineWords, SymbolFound, symbol-bytes, symbol-read, symbol-course}
+use Rattle.parsing.proofs.Scans.{same-word}
+use Rattle.parsing.proofs.Words.{Word, word-end, word-part, word-here, word-inside, behind}
+use Rattle.parsing.proofs.Names.{distinct-fresh, distinct-snoc}
+use Rattle.parsing.proofs.VarsLine.{Outcome, fine, faulty, outcome-on, spanAt, names-snoc, spaced-stops}
+use Rattle.parsing.proofs.SymbolLines.{lineWords, SymbolFound, symbol-bytes, symbol-read, symbol-course}
 
 -- the names that lines declare
 abbrev namesOf : List SymbolLine → List Bytes

@@ -12,17 +12,17 @@ use lib.ListN.{length, drop, length-drop}
 use Rattle.laws.proofs.Lists.{either}
 use Rattle.pattern.specs.Regex.{Regex, cat, alt}
 use Rattle.meaning.specs.Events.{Parameter}
 use Rattle.form.specs.Text.{Bytes, Span, varsWord, space, lf, isLower}
 use Rattle.form.specs.Form.{sameWord}
 use Rattle.form.specs.Phrase.{opening, closing, bar, asterisk, plusSign, question}
 use Rattle.form.specs.Scan.{Step, fail, at, pastEnd, spacesEnd, wordEnd, nameEnd, part, nextWord, nameFault}
 use Rattle.form.specs.Lines.{indexOf, Table, declareFault, Variables, variablesFrom, argumentFault, Arguments, argumentsFrom}
 use Rattle.form.specs.Lines.{wantWord, SymbolRead, kindFrom, symbolFrom, noTable, Lines, linesFrom, linesOf}
 use Rattle.pattern.specs.Positions.{occurrenceLimit}
 use Rattle.form.specs.Parse.{Parsed, failed, postfixOn, itemOf, nameAtom, unfit, closed, beginsItem, joined}
 use Rattle.form.specs.Parse.{alternationFrom, sequenceFrom, atomFrom, enough, patternFrom}
 use Rattle.form.specs.Reading.{lastLine}
-use Rattle.form.proofs.Scans.{spacesEnd-le, nameEnd-le, at-end}
+use Rattle.parsing.proofs.Scans.{spacesEnd-le, nameEnd-le, at-end}
 
 -- a test before and after a function, and one whose ways are the same
 push : {A B : Type 0} (f : A → B) (b : Bool) (x y : A) → f (cond b x y) ≡ cond b (f x) (f y)

@@ -10,11 +10,11 @@ use lib.ListN.{length, take, drop, drop-of-length-le}
 use lib.Seq.{drop-cons, drop-drop, getD-drop}
 use borrow.Author.Tests.{eqb-true, eqb-false, ltb-true, ltb-false}
 use Rattle.laws.proofs.Lists.{or-false-split, either}
 use Rattle.form.specs.Text.{Bytes, space, isLower, isDigit, isNameByte}
 use Rattle.form.specs.Tokens.{Token, name, sign, tokensAfter, tokens}
 use Rattle.form.specs.Scan.{at, pastEnd, run, isSpace, spacesEnd, nameEnd, part}
-use Rattle.form.proofs.Scans as Scans
-use Rattle.form.proofs.Scans.{at-end, run-behind}
+use Rattle.parsing.proofs.Scans as Scans
+use Rattle.parsing.proofs.Scans.{at-end, run-behind}
 
 -- what holds for both results of a comparison
 pub by-equal : {A : Type 0} (P : A → Type 0) (m n : ℕ) {x y : A} → (m ≡ n → P x) → ((m ≡ n → ⊥) → P y) → P (cond (eqb m n) x y)

@@ -13,11 +13,11 @@ use Rattle.laws.proofs.Lists.{and-true-split, or-true-split, all-append, all-ma
 use Rattle.pattern.specs.Regex.{Regex}
 use Rattle.meaning.specs.Events.{Parameter, ignored, names}
 use Rattle.meaning.specs.Book.{soundSymbol}
 use Rattle.form.specs.Text.{Bytes, isLower, isDigit, isNameByte, isName, decimal, SymbolLine, Declarations, spaced, parameterWord, symLine}
 use Rattle.form.specs.Text.{lf, varsLine, matchLine, header, text, symbolOf}
 use Rattle.form.specs.Form.{Shape, symbolNames}
-use Rattle.form.proofs.SymbolLines.{lineWords}
-use Rattle.form.proofs.Grammar.{tokens-signs, phrase-signs}
+use Rattle.parsing.proofs.SymbolLines.{lineWords}
+use Rattle.parsing.proofs.Grammar.{tokens-signs, phrase-signs}
 
 abbrev pub isAscii : ℕ → Bool
 isAscii b = ltb b 128

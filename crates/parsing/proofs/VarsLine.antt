@@ -10,13 +10,13 @@ use lib.ListN.{length, drop, length-append}
 use lib.Seq.{append-snoc}
 use Rattle.laws.specs.Lists.{all}
 use Rattle.laws.proofs.Lists.{and-true-split}
 use Rattle.form.specs.Text.{Bytes, space, lf, isName, Span, spaced, variableSpans}
 use Rattle.form.specs.Form.{distinct}
 use Rattle.form.specs.Scan.{Step, go, run, isWordByte, nextWord}
 use Rattle.form.specs.Lines.{bytesAt, spanOf, Variables, variablesFrom}
-use Rattle.form.proofs.Words.{Word, word-end, part-first, Next, word-next, next-behind, next-inside, byte-inside, gap-ended}
-use Rattle.form.proofs.Words.{Gap, ended, next, failed, gap}
-use Rattle.form.proofs.Names.{known, isNew, name-word, distinct-fresh, distinct-snoc, declare-tested}
+use Rattle.parsing.proofs.Words.{Word, word-end, part-first, Next, word-next, next-behind, next-inside, byte-inside, gap-ended}
+use Rattle.parsing.proofs.Words.{Gap, ended, next, failed, gap}
+use Rattle.parsing.proofs.Names.{known, isNew, name-word, distinct-fresh, distinct-snoc, declare-tested}
 
 -- what comes of a step of the reader: it finds what the stated form has there, or a fault inside the text
 pub data Outcome (s : Bytes) (n : Step) (Found : Type 0) : Type 0 where

@@ -9,15 +9,15 @@ use lib.Dec.{eqb, leb, ltb}
 use lib.ListN.{length}
 use Rattle.laws.proofs.Lists.{and-true-split, either}
 use Rattle.pattern.specs.Regex.{lit, nullable, boundBy}
 use Rattle.form.specs.Text.{Bytes, space}
 use Rattle.form.specs.Limits.{textLimit}
 use Rattle.form.specs.Scan.{Step, fail, at, spacesEnd}
 use Rattle.form.specs.Lines.{noTable, linesOf}
 use Rattle.form.specs.Parse.{Parsed, failed, patternFrom}
 use Rattle.form.specs.Reading.{Outcome, refused, lastLine, variablesOf, allBits, matchFrom, readingOf}
-use Rattle.form.proofs.Scans.{spacesEnd-le}
-use Rattle.form.proofs.Header.{lines-place}
-use Rattle.form.proofs.Faults.{stepInRange, lines-range, before-end, pattern-fit}
+use Rattle.parsing.proofs.Scans.{spacesEnd-le}
+use Rattle.parsing.proofs.Header.{lines-place}
+use Rattle.parsing.proofs.Faults.{stepInRange, lines-range, before-end, pattern-fit}
 
 -- the pattern behind the lines, its first token's place, and whether every word binds every variable
 abbrev pub patternOf : Bytes → Parsed

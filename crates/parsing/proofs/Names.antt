@@ -11,12 +11,12 @@ use lib.ListN.{length, getD, length-map}
 use lib.Seq.{getD-drop}
 use Rattle.laws.specs.Lists.{any, all}
 use Rattle.laws.proofs.Lists.{same-test, and-true-split, any-append, any-of, any-none, mem-getD, or-false-split}
 use Rattle.form.specs.Text.{Bytes, space, lf, isLower, isDigit, isNameByte, isName, ignoredWord, Span}
 use Rattle.form.specs.Form.{sameWord, distinct}
 use Rattle.form.specs.Scan.{at, pastEnd, run, part, isWordByte, wordEnd, nameEnd, nameFault}
 use Rattle.form.specs.Lines.{bytesAt, indexOf, declareFault, argumentFault}
-use Rattle.form.proofs.Scans.{same-word}
-use Rattle.form.proofs.Words.{Word, word-end, word-part, isWord, run-over, run-passes}
+use Rattle.parsing.proofs.Scans.{same-word}
+use Rattle.parsing.proofs.Words.{Word, word-end, word-part, isWord, run-over, run-passes}
 
 -- bytes that pass a test which space, LF and 256 fail are a word's
 module _ (f : ℕ → Bool) (no-space : f space ≡ false) (no-lf : f lf ≡ false) where

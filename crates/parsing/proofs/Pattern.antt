@@ -14,20 +14,20 @@ use Rattle.laws.specs.Lists.{any, all}
 use Rattle.laws.proofs.Lists.{either}
 use Rattle.pattern.specs.Regex.{Regex}
 use Rattle.pattern.specs.Positions.{size}
 use Rattle.form.specs.Text.{Bytes, lf, isName, Span}
 use Rattle.form.specs.Tokens.{sign, tokens}
 use Rattle.form.specs.Phrase.{Phrase, alternation}
 use Rattle.form.specs.Limits.{openLimit, textLimit}
 use Rattle.form.specs.Form.{distinct}
 use Rattle.form.specs.Scan.{go, fail, at, pastEnd, spacesEnd, part}
 use Rattle.form.specs.Lines.{bytesAt}
 use Rattle.form.specs.Parse.{Parsed, failed, enough, patternFrom}
 use Rattle.form.specs.Reading.{lastLine}
-use Rattle.form.proofs.Scans.{spacesEnd-le}
-use Rattle.form.proofs.TokenScan.{by-equal, tokensAt, inside-of, sign-token, sign-found}
-use Rattle.form.proofs.Grammar.{tokens-lf, tokens-lines, tokens-length, phrase-some, phrase-line}
-use Rattle.form.proofs.Course.{Sound, alternation-course}
-use Rattle.form.proofs.Complete.{phrase-read}
+use Rattle.parsing.proofs.Scans.{spacesEnd-le}
+use Rattle.parsing.proofs.TokenScan.{by-equal, tokensAt, inside-of, sign-token, sign-found}
+use Rattle.parsing.proofs.Grammar.{tokens-lf, tokens-lines, tokens-length, phrase-some, phrase-line}
+use Rattle.parsing.proofs.Course.{Sound, alternation-course}
+use Rattle.parsing.proofs.Complete.{phrase-read}
 
 -- behind the last LF there is no token, and before it there is one
 last-place : (s m : Bytes) (q : ℕ) → s ≡ m ++ (lf ∷ []) → q + 1 ≤ length s → tokensAt s (q + 1) ≡ [] → q + 1 ≡ length s

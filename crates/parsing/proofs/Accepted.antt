@@ -17,20 +17,20 @@ use Rattle.pattern.specs.Positions as Positions
 use Rattle.pattern.proofs.Words as Words
 use Rattle.meaning.specs.Book.{Proper}
 use Rattle.meaning.proofs.ProperTest.{bit-boundIn, all-below}
 use Rattle.form.specs.Text.{Bytes, matchWord, Declarations, SymbolLine, header, symbolOf, tracematchOf, spans}
 use Rattle.form.specs.Tokens.{Token}
 use Rattle.form.specs.Phrase.{Phrase, Level, symbol, group, plain, starred, plussed, optional, last, then, only, or}
 use Rattle.form.specs.Limits.{textLimit}
 use Rattle.form.specs.Form.{Shape, Form, symbolNames, allNames, binds}
 use Rattle.form.specs.Scan.{run, isSpace}
 use Rattle.form.specs.Lines.{noTable, bytesAt, declaredTable}
 use Rattle.form.specs.Reading.{variablesOf, readingOf}
 use Rattle.form.specs.Samples.{Read, accepts, outcome, wanted, table}
 use Rattle.form.proofs.Samples.{sampled}
-use Rattle.form.proofs.Header.{header-names}
-use Rattle.form.proofs.Outcomes.{patternOf, bindsAll, answer, known, words-first}
-use Rattle.form.proofs.Ascii.{shape-ascii}
-use Rattle.form.proofs.Shapes.{Found, shape-found, shape-first, whole-shape}
+use Rattle.parsing.proofs.Header.{header-names}
+use Rattle.parsing.proofs.Outcomes.{patternOf, bindsAll, answer, known, words-first}
+use Rattle.parsing.proofs.Ascii.{shape-ascii}
+use Rattle.parsing.proofs.Shapes.{Found, shape-found, shape-first, whole-shape}
 
 -- a phrase has declared symbols only
 phrase-declared : {names : List Bytes} {k : Level} {d : ℕ} {ts : List Token} {r : Regex} → Phrase names k d ts r

@@ -11,16 +11,16 @@ use lib.ListN.{length, drop, length-drop}
 use Rattle.laws.proofs.Lists.{or-false-split, either}
 use Rattle.pattern.specs.Regex.{Regex, cat, alt}
 use Rattle.pattern.specs.Positions.{size}
 use Rattle.form.specs.Text.{Bytes, isLower, Span, space}
 use Rattle.form.specs.Phrase.{opening, closing, bar, asterisk, plusSign, question}
 use Rattle.form.specs.Limits.{textLimit}
 use Rattle.form.specs.Scan.{at, pastEnd, fail, spacesEnd, nameEnd, part}
 use Rattle.form.specs.Lines.{indexOf}
 use Rattle.form.specs.Parse.{Parsed, failed, itemOf, nameAtom, closed, unfit, beginsItem, joined, enough, alternationFrom, sequenceFrom, atomFrom}
 use Rattle.pattern.specs.Positions.{occurrenceLimit}
 use Rattle.form.specs.Parse.{postfixOn}
-use Rattle.form.proofs.Scans.{spacesEnd-le, spacesEnd-ge, nameEnd-le, nameEnd-gt}
-use Rattle.form.proofs.Faults.{before-end}
+use Rattle.parsing.proofs.Scans.{spacesEnd-le, spacesEnd-ge, nameEnd-le, nameEnd-gt}
+use Rattle.parsing.proofs.Faults.{before-end}
 
 -- a way of a test matters only where the test goes that way
 agree : {A : Type 0} (b : Bool) {x x' y y' : A} → (b ≡ true → x ≡ x') → (b ≡ false → y ≡ y') → cond b x y ≡ cond b x' y'

@@ -11,15 +11,15 @@ use Rattle.laws.specs.Lists.{all}
 use Rattle.laws.proofs.Lists.{and-true-split}
 use Rattle.meaning.specs.Events.{Symbol}
 use Rattle.meaning.specs.Book.{soundParameter, soundSymbol}
 use Rattle.form.specs.Text.{Bytes, space, lf, isName, decimal, Span, spaced, parameterWord, SymbolLine, symbolOf}
 use Rattle.form.specs.Form.{distinct}
 use Rattle.form.specs.Scan.{Step, go, fail, wordEnd}
 use Rattle.form.specs.Lines.{bytesAt, Table, Arguments, SymbolRead, noSymbolRead, declareFault, argumentsFrom, wantWord, kindFrom, symbolFrom}
-use Rattle.form.proofs.Words.{word-end, behind, part-first, Next, word-next, next-behind, next-inside, byte-inside, Gap, ended, next, failed, gap}
-use Rattle.form.proofs.Names.{known, isNew, name-word, declare-tested}
-use Rattle.form.proofs.Numerals.{kindIn, kind-of, kind-read, kind-found}
-use Rattle.form.proofs.VarsLine.{Outcome, faulty, outcome-on, spanAt, span-of, spaced-stops, spaced-first}
-use Rattle.form.proofs.Arguments.{arguments-read, arguments-course}
+use Rattle.parsing.proofs.Words.{word-end, behind, part-first, Next, word-next, next-behind, next-inside, byte-inside, Gap, ended, next, failed, gap}
+use Rattle.parsing.proofs.Names.{known, isNew, name-word, declare-tested}
+use Rattle.parsing.proofs.Numerals.{kindIn, kind-of, kind-read, kind-found}
+use Rattle.parsing.proofs.VarsLine.{Outcome, faulty, outcome-on, spanAt, span-of, spaced-stops, spaced-first}
+use Rattle.parsing.proofs.Arguments.{arguments-read, arguments-course}
 
 -- a word that must stand
 want-next : {s : Bytes} {p : ℕ} {w rest : Bytes} → Next s p w rest → wantWord s p ≡ go (p + 1)

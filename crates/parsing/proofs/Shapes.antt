@@ -11,14 +11,14 @@ use lib.Seq.{getD-append-add, drop-append-add}
 use Rattle.laws.specs.Lists.{any, all}
 use Rattle.laws.proofs.Lists.{all-append, and-true-split}
 use Rattle.pattern.specs.Regex.{Regex}
 use Rattle.form.specs.Text.{Bytes, space, lf, isName, matchWord, Declarations, header, text}
 use Rattle.form.specs.Form.{sameWord, distinct, symbolNames, Shape}
 use Rattle.form.specs.Scan.{at, pastEnd, run, isSpace, spacesEnd}
 use Rattle.form.specs.Lines.{bytesAt, linesOf, declaredTable}
-use Rattle.form.proofs.Header.{Header, header-read, header-found, header-names}
-use Rattle.form.proofs.Pattern.{Written, pattern-read, pattern-found}
-use Rattle.form.proofs.Faults.{before-end}
-use Rattle.form.proofs.Outcomes.{patternOf, firstOf, Whole}
+use Rattle.parsing.proofs.Header.{Header, header-read, header-found, header-names}
+use Rattle.parsing.proofs.Pattern.{Written, pattern-read, pattern-found}
+use Rattle.parsing.proofs.Faults.{before-end}
+use Rattle.parsing.proofs.Outcomes.{patternOf, firstOf, Whole}
 
 -- of distinct names those behind are distinct
 distinct-behind : (v w : List Bytes) → distinct (v ++ w) ≡ true → distinct w ≡ true

@@ -10,12 +10,12 @@ use borrow.Author.Tests.{eqb-true, ne-eqb}
 use Rattle.laws.specs.Lists.{any}
 use Rattle.laws.proofs.Lists.{any-append, either}
 use Rattle.pattern.specs.Regex.{Regex}
 use Rattle.form.specs.Text.{Bytes, space, lf, isLower, isDigit, isNameByte}
 use Rattle.form.specs.Tokens.{Token, name, sign, ended, tokensAfter, tokens}
 use Rattle.form.specs.Phrase
 use Rattle.form.specs.Phrase.{Phrase, Level, opening, closing, bar, asterisk, plusSign, question}
 use Rattle.form.specs.Parse.{beginsItem}
-use Rattle.form.proofs.TokenScan.{nextIs, apart}
+use Rattle.parsing.proofs.TokenScan.{nextIs, apart}
 
 -- a test of signs, and whether the token is an LF
 abbrev pub signIs : (ℕ → Bool) → Token → Bool

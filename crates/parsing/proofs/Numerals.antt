@@ -9,10 +9,10 @@ use lib.Dec.{eqb, leb, ltb}
 use lib.ListN.{length}
 use Rattle.laws.specs.Lists.{all}
 use Rattle.laws.proofs.Lists.{and-true-split}
 use Rattle.form.specs.Text.{Bytes, isDigit, decimal}
 use Rattle.form.specs.Scan.{value, kindOf, wordEnd}
-use Rattle.form.proofs.Words.{Word, word-end, word-part, isWord}
-use Rattle.form.proofs.Names.{at-first, bytes-word}
+use Rattle.parsing.proofs.Words.{Word, word-end, word-part, isWord}
+use Rattle.parsing.proofs.Names.{at-first, bytes-word}
 
 -- the number that a word writes, or 0
 abbrev pub kindIn : Bytes → ℕ

@@ -12,17 +12,17 @@ use lib.Seq.{drop-append-seam}
 use Rattle.laws.specs.Lists.{all, gather}
 use Rattle.laws.proofs.Lists.{and-true-split, all-append}
 use Rattle.meaning.specs.Book.{soundSymbol}
 use Rattle.form.specs.Limits.{variableLimit, symbolLimit}
 use Rattle.form.specs.Text.{Bytes, space, lf, isName, varsWord, symWord, matchWord, decimal, parameterWord, spaced, varsLine, symLine}
 use Rattle.form.specs.Text.{SymbolLine, Declarations, header, symbolOf, variableSpans, symbolSpans}
 use Rattle.form.specs.Form.{sameWord, distinct, allNames, symbolNames}
 use Rattle.form.specs.Scan.{go, fail, run, part, isWordByte, wordEnd}
 use Rattle.form.specs.Lines.{Table, noTable, Variables, Lines, variablesFrom, linesFrom, linesOf, bytesAt, declaredTable}
-use Rattle.form.proofs.Scans.{same-word}
-use Rattle.form.proofs.Words.{Word, word-end, word-part, word-here, word-inside, behind, part-first}
-use Rattle.form.proofs.Names.{distinct-left}
-use Rattle.form.proofs.VarsLine.{Outcome, fine, faulty, outcome-on, VariablesRead, variables-read, variables-course, spaced-stops, spaced-first}
-use Rattle.form.proofs.Declared.{LinesRead, line-text, lines-read, lines-course}
+use Rattle.parsing.proofs.Scans.{same-word}
+use Rattle.parsing.proofs.Words.{Word, word-end, word-part, word-here, word-inside, behind, part-first}
+use Rattle.parsing.proofs.Names.{distinct-left}
+use Rattle.parsing.proofs.VarsLine.{Outcome, fine, faulty, outcome-on, VariablesRead, variables-read, variables-course, spaced-stops, spaced-first}
+use Rattle.parsing.proofs.Declared.{LinesRead, line-text, lines-read, lines-course}
 
 -- the text s begins with the lines that write d, and with the word `match`
 pub record Header (s : Bytes) (d : Declarations) : Type 0 where

@@ -15,18 +15,18 @@ use Rattle.laws.specs.Lists.{any, all}
 use Rattle.laws.proofs.Lists.{and-true-split, or-true-split, any-none, all-at, mem-getD, or-false-split}
 use Rattle.pattern.specs.Regex.{Regex, lit, cat, alt, star, plus, opt}
 use Rattle.pattern.specs.Positions.{size}
 use Rattle.form.specs.Text.{Bytes, space, isLower, isNameByte, isName, Span}
 use Rattle.form.specs.Tokens.{Token, name, sign}
 use Rattle.form.specs.Phrase
 use Rattle.form.specs.Phrase.{Phrase, Level, atom, item, sequence, alternation, opening, closing, bar, asterisk, plusSign, question}
 use Rattle.form.specs.Form.{sameWord, distinct}
 use Rattle.form.specs.Scan.{go, at, pastEnd, run, isSpace, spacesEnd, nameEnd, part}
 use Rattle.form.specs.Lines.{bytesAt, indexOf}
 use Rattle.form.specs.Parse.{Parsed, postfixOn, itemOf, nameAtom, closed, beginsItem}
 use Rattle.form.specs.Parse.{alternationFrom, sequenceFrom, atomFrom}
-use Rattle.form.proofs.Scans.{nameEnd-le, same-word}
-use Rattle.form.proofs.TokenScan.{tokensAt, inside-of, nextIs, next-test, here-space, word-found, sign-found}
-use Rattle.form.proofs.Grammar.{phrase-begins, phrase-some}
+use Rattle.parsing.proofs.Scans.{nameEnd-le, same-word}
+use Rattle.parsing.proofs.TokenScan.{tokensAt, inside-of, nextIs, next-test, here-space, word-found, sign-found}
+use Rattle.parsing.proofs.Grammar.{phrase-begins, phrase-some}
 
 -- a name's number, where no name stands twice
 index-of : (s : Bytes) (symbols : List Span) (a : ℕ) → distinct (map (bytesAt s) symbols) ≡ true → a < length symbols

@@ -12,15 +12,15 @@ use Rattle.laws.specs.Lists.{all}
 use Rattle.laws.proofs.Lists.{and-true-split, all-at, mem-getD}
 use Rattle.meaning.specs.Events.{Parameter, ignored, names}
 use Rattle.meaning.specs.Book.{soundParameter}
 use Rattle.form.specs.Text.{Bytes, space, lf, isName, ignoredWord, Span, spaced, parameterWord}
 use Rattle.form.specs.Form.{sameWord, distinct}
 use Rattle.form.specs.Scan.{go, wordEnd, nextWord}
 use Rattle.form.specs.Lines.{bytesAt, Arguments, argumentFault, argumentOf, argumentsFrom}
-use Rattle.form.proofs.Scans.{same-word}
-use Rattle.form.proofs.Words.{Word, word-end, word-part, isWord, Next, word-next, next-behind, next-inside, byte-inside, gap-ended}
-use Rattle.form.proofs.Words.{Gap, ended, next, failed, gap}
-use Rattle.form.proofs.Names.{indexIn, known, index-of, index-known, getD-index, index-getD, known-getD, name-word, argument-tested}
-use Rattle.form.proofs.VarsLine.{Outcome, fine, faulty, outcome-on, spaced-stops, spaced-first}
+use Rattle.parsing.proofs.Scans.{same-word}
+use Rattle.parsing.proofs.Words.{Word, word-end, word-part, isWord, Next, word-next, next-behind, next-inside, byte-inside, gap-ended}
+use Rattle.parsing.proofs.Words.{Gap, ended, next, failed, gap}
+use Rattle.parsing.proofs.Names.{indexIn, known, index-of, index-known, getD-index, index-getD, known-getD, name-word, argument-tested}
+use Rattle.parsing.proofs.VarsLine.{Outcome, fine, faulty, outcome-on, spaced-stops, spaced-first}
 
 -- whether a word may stand among ARGS, and what it stands for
 abbrev pub isArgument : List Bytes → Bytes → Bool
