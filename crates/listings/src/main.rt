@@ -8,7 +8,7 @@ fn list(heading: &[u8], book: &[u8], events: &[u8]) {
 // - Book B1 with records that are refused, the last of them too short, and values of up to 32 bits: load(1,7), drop(1), a record of kind 0,
 //   drop(1), load(1,4294967295), load(1,65536), drop(1) with three rows, load(16909060,0), drop(16909060), load(2,8), then 19 bytes of a
 //   drop(2).
-// - Beyond one piece of input and of output: no variables, `sym a 1 _`, `sym b 1 _`, `match a b`, and 7,000 equal records (140,000 bytes);
+// - Beyond what is gathered before it is written: no variables, `sym a 1 _`, `sym b 1 _`, `match a b`, and 7,000 equal records (140,000 bytes);
 //   from the second on each gives the empty valuation, printed as `row` alone.
 fn main() {
     list(b"refused\n", b"refused.txt", b"refused.events");

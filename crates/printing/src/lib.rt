@@ -2,43 +2,23 @@
 // A refused text is printed as `book`, number, place. Otherwise the events are taken, 20 bytes to each, and printed is for each its
 // number, the answer and the row count, then its rows.
 use book::Book;
-use state::State;
 use tally::Tally;
 ghost use Prim.Native.Nat.{_<_, _≤_};
 
-// A row and an event record, a piece of the input, how much of the output is gathered before it is written, and the longest number.
+// A row and an event record, how much of the output is gathered before it is written, and the longest number.
 const ROW_BYTES: usize = 24;
 
 const RECORD_BYTES: usize = 20;
 
-const PIECE: usize = 64000;
-
 const GATHERED: usize = 65000;
 
 const DIGITS: usize = 20;
-
-// What goes from piece to piece of the input, beside the buffers: the state, the tally, how many records there were, and how
-// many bytes of the output are gathered.
-struct Run {
-    state: State,
-    tally: Tally,
-    number: u64,
-    at: usize,
-}
 
 // The less of two numbers.
 fn least(a: usize, b: usize) -> usize
     ensures { λ r. ⌜ (r ≤ a) × (r ≤ b) ⌝ }
 {
     if a < b { a } else { b }
-}
-
-// The next record's number; it stops at the largest 64-bit value, which no input reaches.
-fn next(number: u64) -> u64 {
-    if number < u64::MAX {
-        return number + 1;
-    }
-    number
 }
 
 // Writes what is gathered.
@@ -151,68 +131,31 @@ fn put_line(out: &mut [u8], at: usize, number: u64, answer: usize, count: usize)
     put(out, e, b'\n')
 }
 
-// Where the record that begins at i ends, in a piece of n bytes: after 20 bytes, or short at the end of the piece.
-fn record_end(i: usize, n: usize) -> usize
-    requires { ⌜ i < n ⌝ }
-    ensures { λ r. ⌜ (i < r) × (r ≤ n) ⌝ }
-{
-    if n - i < RECORD_BYTES {
-        n
-    } else {
-        i + RECORD_BYTES
-    }
-}
-
-// The records of a piece of the input, a last short one too: for each its line and its rows.
-fn take_all(book: Book, run: Run, piece: &[u8], rows: &mut [u8], out: &mut [u8]) -> Run {
-    let mut s = run.state;
-    let mut t = run.tally;
-    let mut number = run.number;
-    let mut k = run.at;
-    let mut i: usize = 0;
-    while i < piece.len() {
-        let e = record_end(i, piece.len());
-        let r = watch::event(book, s, &piece[i..e], rows, 0, t);
-        let a = r.answer;
-        number = next(number);
-        k = put_line(out, k, number, watch::number_of(a), r.rows);
-        k = put_rows(out, k, rows, r.rows, book.variables);
-        s = r.state;
-        t = r.tally;
-        i = e;
-    }
-    Run {
-        state: s,
-        tally: t,
-        number: number,
-        at: k,
-    }
-}
-
-// All records of an open file, in pieces of 64,000 bytes. A proved loop has to end, and nothing says that the input does, so the
-// pieces are counted down, from a number that no run uses up.
+// All records of an open file, a last short one too: for each its line and its rows. A proved loop has to end, and nothing says that the
+// file does, so it also ends at the largest 64-bit number of a record, which no file reaches.
 fn list(book: Book, events: i32) {
-    let mut piece_space = [0u8; PIECE];
+    let mut bytes_space = [0u8; RECORD_BYTES];
     let mut rows_space = io::large_buffer();
     let mut out_space = io::large_buffer();
-    let piece: &mut [u8] = &mut piece_space;
+    let bytes: &mut [u8] = &mut bytes_space;
     let rows: &mut [u8] = &mut rows_space;
     let out: &mut [u8] = &mut out_space;
-    let mut run = Run {
-        state: watch::fresh(),
-        tally: Tally::none(),
-        number: 0,
-        at: 0,
-    };
-    let mut more = true;
-    let mut turns = u64::MAX;
-    while 0 < turns && more {
-        let n = io::read_full(events, piece);
-        run = take_all(book, run, &piece[..n], rows, out);
-        more = n == piece.len();
-        turns -= 1;
+    let mut state = watch::fresh();
+    let mut tally = Tally::none();
+    let mut number: u64 = 0;
+    let mut at: usize = 0;
+    let mut size = io::read_full(events, bytes);
+    while number < u64::MAX && 0 < size {
+        let r = watch::event(book, state, &bytes[..size], rows, 0, tally);
+        let a = r.answer;
+        number += 1;
+        at = put_line(out, at, number, watch::number_of(a), r.rows);
+        at = put_rows(out, at, rows, r.rows, book.variables);
+        state = r.state;
+        tally = r.tally;
+        size = io::read_full(events, bytes);
     }
-    flush(out, run.at);
+    flush(out, at);
 }
 
 // A refused book.

@@ -1,14 +1,16 @@
--- `printing::list` is safe and ends: the measure is how many pieces may still be read.
--- Nothing has to hold from turn to turn, so the invariant is `Unit {0}`, the fact that says nothing.
+-- `printing::list` is safe and ends: the measure is how far the number is from the largest.
+-- The invariant: as many bytes as are counted stand at the start of the buffer that a record is read into. Nothing that `watch` promises is used.
+use Prim.Native.Nat.{_-_}
 use borrow.Author.Needs.{needs}
+use Rattle.io.specs.Counts.{Counts}
 use Rattle.printing.proofs.list.Statement.{statement}
 use Rattle.printing.proofs.list.Tie as tie
 
 abbrev Inv-loop : tie.InvT-loop
-Inv-loop book events piece₀ rows₀ out₀ run₀ more₀ turns₀ piece rows out run more turns = Unit {0}
+Inv-loop book events bytes₀ rows₀ out₀ state₀ tally₀ number₀ at₀ size₀ bytes rows out state tally number at size = Counts size bytes
 
 abbrev μ-loop : tie.MeasureT-loop
-μ-loop book events piece₀ rows₀ out₀ run₀ more₀ turns₀ piece rows out run more turns = turns
+μ-loop book events bytes₀ rows₀ out₀ state₀ tally₀ number₀ at₀ size₀ bytes rows out state tally number at size = 18446744073709551615 - number
 
 large-buffer-requires : tie.Need-large-buffer-requires Inv-loop μ-loop
 large-buffer-requires c κs = search needs
@@ -16,8 +18,8 @@ large-buffer-requires c κs = search needs
 large-buffer-requires-2 : tie.Need-large-buffer-requires-2 Inv-loop μ-loop
 large-buffer-requires-2 c κs = search needs
 
-slice-aggregate-piece : tie.Need-slice-aggregate-piece Inv-loop μ-loop
-slice-aggregate-piece c = search needs
+slice-aggregate-bytes : tie.Need-slice-aggregate-bytes Inv-loop μ-loop
+slice-aggregate-bytes c = search needs
 
 slice-aggregate-rows : tie.Need-slice-aggregate-rows Inv-loop μ-loop
 slice-aggregate-rows c = search needs
@@ -31,23 +33,35 @@ fresh-requires c κs = search needs
 none-requires : tie.Need-none-requires Inv-loop μ-loop
 none-requires c κs = search needs
 
-loop-holds : tie.Need-loop-holds Inv-loop μ-loop
-loop-holds c = search needs
-
 read-full-requires : tie.Need-read-full-requires Inv-loop μ-loop
 read-full-requires c κs = search needs
 
-slice-reshare-prefix-take-all : tie.Need-slice-reshare-prefix-take-all Inv-loop μ-loop
-slice-reshare-prefix-take-all c = search needs
+loop-holds : tie.Need-loop-holds Inv-loop μ-loop
+loop-holds c = search needs
 
-slice-aggregate-take-all : tie.Need-slice-aggregate-take-all Inv-loop μ-loop
-slice-aggregate-take-all c = search needs
+slice-reshare-prefix-event : tie.Need-slice-reshare-prefix-event Inv-loop μ-loop
+slice-reshare-prefix-event c = search needs
 
-take-all-requires : tie.Need-take-all-requires Inv-loop μ-loop
-take-all-requires c κs = search needs
+slice-aggregate-event : tie.Need-slice-aggregate-event Inv-loop μ-loop
+slice-aggregate-event c = search needs
 
-sub-turns : tie.Need-sub-turns Inv-loop μ-loop
-sub-turns c = search needs
+event-requires : tie.Need-event-requires Inv-loop μ-loop
+event-requires c κs = search needs
+
+add-number : tie.Need-add-number Inv-loop μ-loop
+add-number c = search needs
+
+number-of-requires : tie.Need-number-of-requires Inv-loop μ-loop
+number-of-requires c κs = search needs
+
+put-line-requires : tie.Need-put-line-requires Inv-loop μ-loop
+put-line-requires c κs = search needs
+
+put-rows-requires : tie.Need-put-rows-requires Inv-loop μ-loop
+put-rows-requires c κs = search needs
+
+read-full-requires-2 : tie.Need-read-full-requires-2 Inv-loop μ-loop
+read-full-requires-2 c κs = search needs
 
 loop-less : tie.Need-loop-less Inv-loop μ-loop
 loop-less c = search needs
@@ -69,17 +83,21 @@ list-spec =
     μ-loop
     large-buffer-requires
     large-buffer-requires-2
-    slice-aggregate-piece
+    slice-aggregate-bytes
     slice-aggregate-rows
     slice-aggregate-out
     fresh-requires
     none-requires
-    loop-holds
     read-full-requires
-    slice-reshare-prefix-take-all
-    slice-aggregate-take-all
-    take-all-requires
-    sub-turns
+    loop-holds
+    slice-reshare-prefix-event
+    slice-aggregate-event
+    event-requires
+    add-number
+    number-of-requires
+    put-line-requires
+    put-rows-requires
+    read-full-requires-2
     loop-less
     loop-again
     flush-requires
