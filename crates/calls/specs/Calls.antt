@@ -1,5 +1,5 @@
 -- One event call, decided whole, for any book, state, record, buffer, place and tally, however filled: the answer, and all that is
--- handed back or left. The contract of `event` repeats it; the theorems in ../proofs are about it.
+-- handed back or left. The contract of `event` repeats it; the theorems of the crate demands are about it.
 use mathlib.Core.Bool.{Bool, true, false, cond, not, _&&_, _||_}
 use mathlib.Core.List.{List, [], _∷_, _++_}
 use Prim.Native.Nat.{ℕ, suc, _+_, _*_}

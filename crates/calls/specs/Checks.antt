@@ -1,5 +1,5 @@
 -- The five checks of an event call in words, for any book and state, reached by a run or not: document 01, "What a call hands back". The
--- theorem `first-failing` (../proofs/Checks.antt) says of what a call hands back that its number is that of the first that fails.
+-- theorem `first-failing` (crate demands, Checks) says of what a call hands back that its number is that of the first that fails.
 use mathlib.Core.Path.{_≡_}
 use mathlib.Core.Bool.{true, false}
 use mathlib.Core.List.{List, List·Memᴰ}

@@ -1,5 +1,5 @@
 -- What is promised of a text that `read` accepts, in one place: demands 2 and 3 and the answers along every run, for the tracematch that
--- the text declares. The theorem `demands` (../proofs/Demands.antt) gives it for every text with answer 0.
+-- the text declares. The theorem `demands` (crate demands) gives it for every text with answer 0.
 use mathlib.Core.Path.{_≡_}
 use mathlib.Core.Bool.{true}
 use mathlib.Core.List.{List}

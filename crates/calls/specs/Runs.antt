@@ -1,5 +1,5 @@
 -- Runs of event calls over one book from the fresh state, and what demands 2 and 3 say of them: document 01, "Crossed messages".
--- The theorems are in ../proofs.
+-- The theorems are in the crate demands.
 use mathlib.Core.Path.{_≡_}
 use mathlib.Core.Bool.{Bool, true, false}
 use mathlib.Core.List.{List, [], _∷_, _++_, map}

@@ -1,4 +1,4 @@
--- Two runs over book B1 of document 01, for the theorem `witness` (../proofs/Witness.antt): one accepts four events, the other takes
+-- Two runs over book B1 of document 01, for the theorem `witness` (crate demands): one accepts four events, the other takes
 -- them in another order and refuses a record of 19 bytes on the way. For the buyer.
 use mathlib.Core.List.{List, [], _∷_, map}
 use Prim.Native.Nat.{ℕ, _+_, _*_}

@@ -36,9 +36,9 @@ use Rattle.calls.specs.Answers.{numberOf}
 use Rattle.calls.specs.Runs.{lentAt, make, allBytes}
 use Rattle.book.proofs.Bench as Bench
 use Rattle.least.proofs.Refused.{refused}
-use Rattle.calls.proofs.Answered.{answered}
-use Rattle.calls.proofs.Checks.{first-failing}
-use Rattle.calls.proofs.Listed.{listed}
+use Rattle.demands.proofs.Answered.{answered}
+use Rattle.demands.proofs.Checks.{first-failing}
+use Rattle.demands.proofs.Listed.{listed}
 use Rattle.examples.specs.Starred.{Line, Entry, runs, late, reads, Back, buffer, place, callOf, idle, outcome, wanted, Meant, table}
 
 pub computed : map outcome table ≡ map wanted table

@@ -24,9 +24,9 @@ use Rattle.table.specs.Tables.{viewTable}
 use Rattle.table.specs.declared.Table.{Table}
 use Rattle.piece.specs.Pieces.{pieceOf, noPiece}
 use Rattle.piece.specs.declared.Piece.{Piece}
-use Rattle.grammar.specs.Results.{parsedOf, Readable}
-use Rattle.grammar.specs.declared.Parsed.{Parsed}
-use Rattle.grammar.proofs.Leaves.{fault-same, place-same, good, bad, piece-same, unfit-parsed}
+use Rattle.items.specs.Results.{parsedOf, Readable}
+use Rattle.items.specs.declared.Parsed.{Parsed}
+use Rattle.items.proofs.Leaves.{fault-same, place-same, good, bad, piece-same, unfit-parsed}
 
 size-same : (vars : ℕ → ℕ) (k : ℕ) {r : Parsed} (a : Parse.Parsed) → r ≡ parsedOf vars k a → r .fault ≡ 0 → r .piece .size ≡ size (a .tree)
 unfolding pieceOf

@@ -1,3 +1,2 @@
--- Lemmas that several functions' proofs share: Leaves, results and their parts; Cycle, the readers that call one another.
-pub mod Leaves
+-- For the proof of the cycle: the readers that call one another (Cycle).
 pub mod Cycle

@@ -1,154 +1,21 @@
 // The reader of patterns: alternation, sequence and atom call one another; the allowed depth, then the remaining bytes, falls.
 // For the reader of books.
-use piece::Piece;
+use items::Parsed;
 use table::Table;
 ghost use mathlib.Core.Path.{_≡_};
-ghost use mathlib.Core.Bool.{true};
-ghost use Prim.Native.Nat.{ℕ, _+_, _≤_};
-ghost use lib.ListN.{length};
-ghost use Rattle.pattern.specs.Regex.{Regex};
+ghost use Prim.Native.Nat.{_+_, _≤_};
 ghost use Rattle.form.specs.Limits.{openLimit};
-ghost use Rattle.form.specs.Scan as Scan;
 ghost use Rattle.form.specs.Parse as Parse;
 ghost use Rattle.form.specs.Reading.{variablesOf};
 ghost use Rattle.table.specs.Tables.{viewTable};
-ghost use Rattle.piece.specs.Pieces.{pieceOf, noPiece};
-ghost use Rattle.grammar.specs.Results.{parsedOf, isSign, signedTree, Readable};
+ghost use Rattle.items.specs.Results.{parsedOf, Readable};
 
 const OPENING: usize = b'(' as usize;
 
-const CLOSING: usize = b')' as usize;
-
 const BAR: usize = b'|' as usize;
-
-const ASTERISK: usize = b'*' as usize;
-
-const PLUS_SIGN: usize = b'+' as usize;
-
-const QUESTION: usize = b'?' as usize;
 
 // "at most 16 parentheses open together"
 pub const DEPTH: usize = 16;
-
-// No fault, the place to go on from and the fragment; or a fault's number and its place.
-pub struct Parsed {
-    pub fault: usize,
-    pub place: usize,
-    pub piece: Piece,
-}
-
-pub fn failed(fault: usize, place: usize) -> Parsed
-    ensures { λ r. ⌜ r ≡ record { fault = fault; place = place; piece = noPiece } ⌝ }
-{
-    let none = piece::nothing();
-    Parsed {
-        fault: fault,
-        place: place,
-        piece: none,
-    }
-}
-
-// A token that cannot stand at q.
-pub fn unfit(s: &[u8], q: usize) -> Parsed
-    ensures { λ r. ⌜ r ≡ record { fault = Parse.unfit (now (s .entry)) q .fault; place = q; piece = noPiece } ⌝ }
-{
-    if text::peek(s, q) == text::PAST_END {
-        return failed(2, q);
-    }
-    failed(6, q)
-}
-
-// A fragment with the sign b, `*`, `+` or `?`, behind it.
-fn signed(x: Piece, b: usize) -> Piece
-    requires { ⌜ isSign b ≡ true ⌝ }
-    ensures { λ r. ⌜ ((vars : ℕ → ℕ) (a : Regex) (k : ℕ) → x ≡ pieceOf vars a k → r ≡ pieceOf vars (signedTree b a) k) ⌝ }
-{
-    if b == ASTERISK {
-        return piece::star(x);
-    }
-    if b == PLUS_SIGN {
-        return piece::plus(x);
-    }
-    piece::optional(x)
-}
-
-// An item from its atom: `*`, `+`, `?` behind it.
-fn item(s: &[u8], a: Parsed) -> Parsed
-    requires { ⌜ a .place ≤ length (now s) ⌝ }
-    ensures { λ r. ⌜ ((vars : ℕ → ℕ) (used : ℕ) (x : Parse.Parsed) → a ≡ parsedOf vars used x → r ≡ parsedOf vars used (Parse.itemOf (now (s .entry)) x)) ⌝ }
-{
-    if a.fault != 0 {
-        return a;
-    }
-    let mut here = a.place;
-    let mut done = a.place;
-    let mut x = a.piece;
-    let mut b = text::peek(s, here);
-    while b == text::SPACE || b == ASTERISK || b == PLUS_SIGN || b == QUESTION {
-        here += 1;
-        if b != text::SPACE {
-            x = signed(x, b);
-            done = here;
-        }
-        b = text::peek(s, here);
-    }
-    Parsed {
-        fault: 0,
-        place: done,
-        piece: x,
-    }
-}
-
-// A name in a pattern, from q on, where a letter stands.
-fn name_atom(s: &[u8], t: Table, used: usize, q: usize) -> Parsed
-    requires { ⌜ Readable (now s) t used q ⌝ }
-    ensures { λ r. ⌜ r ≡ parsedOf (variablesOf (viewTable t .table)) used (Parse.nameAtom (now (s .entry)) (viewTable t .symbols) used q) ⌝ }
-{
-    let e = text::name_end(s, q);
-    if text::NAME_LIMIT < e - q {
-        return failed(3, q);
-    }
-    if piece::POSITIONS <= used {
-        return failed(3, q);
-    }
-    let from = t.variables;
-    let n = t.count;
-    let to = from + n;
-    let names = t.names;
-    let a = table::find(s, names, from, to, q, e);
-    if a < n {
-        let y = t.symbols[a];
-        let bound = table::bound_in(y);
-        let x = piece::literal(used + 1, a as u32, bound);
-        return Parsed {
-            fault: 0,
-            place: e,
-            piece: x,
-        };
-    }
-    failed(5, q)
-}
-
-// The closing parenthesis behind an alternation.
-fn closed(s: &[u8], a: Parsed) -> Parsed
-    requires { ⌜ a .place ≤ length (now s) ⌝ }
-    ensures { λ r. ⌜ ((vars : ℕ → ℕ) (used : ℕ) (x : Parse.Parsed) → a ≡ parsedOf vars used x → r ≡ parsedOf vars used (Parse.closed (now (s .entry)) x)) ⌝ }
-{
-    if a.fault != 0 {
-        return a;
-    }
-    let p = a.place;
-    let q = text::spaces_end(s, p);
-    if text::peek(s, q) == CLOSING {
-        let x = a.piece;
-        return Parsed {
-            fault: 0,
-            place: q + 1,
-            piece: x,
-        };
-    }
-    unfit(s, q)
-}
 
 // Sequences divided by `|`.
 pub fn alternation(s: &[u8], t: Table, depth: usize, used: usize, p: usize) -> Parsed
@@ -186,13 +53,13 @@ fn sequence(s: &[u8], t: Table, depth: usize, used: usize, p: usize) -> Parsed
         (Parse.enough depth p + 2) depth used p) ⌝ }
 {
     let o = atom(s, t, depth, used, p);
-    let a = item(s, o);
+    let a = items::item(s, o);
     if a.fault != 0 {
         return a;
     }
     let x = a.piece;
     let e = a.place;
-    if !begins_item(s, e) {
+    if !items::begins_item(s, e) {
         return a;
     }
     let b = sequence(s, t, depth, used + x.size, e);
@@ -208,15 +75,6 @@ fn sequence(s: &[u8], t: Table, depth: usize, used: usize, p: usize) -> Parsed
     }
 }
 
-// Whether the first token from p on begins an item.
-fn begins_item(s: &[u8], p: usize) -> bool
-    ensures { λ r. ⌜ r ≡ Parse.beginsItem (Scan.at (now (s .entry)) (Scan.spacesEnd (now (s .entry)) p)) ⌝ }
-{
-    let q = text::spaces_end(s, p);
-    let c = text::peek(s, q);
-    text::is_lower(c) || c == OPENING
-}
-
 // A name or an alternation in parentheses.
 fn atom(s: &[u8], t: Table, depth: usize, used: usize, p: usize) -> Parsed
     requires { ⌜ Readable (now s) t used p × (depth ≤ openLimit) ⌝ }
@@ -226,14 +84,14 @@ fn atom(s: &[u8], t: Table, depth: usize, used: usize, p: usize) -> Parsed
     let q = text::spaces_end(s, p);
     let c = text::peek(s, q);
     if text::is_lower(c) {
-        return name_atom(s, t, used, q);
+        return items::name_atom(s, t, used, q);
     }
     if c != OPENING {
-        return unfit(s, q);
+        return items::unfit(s, q);
     }
     if depth == 0 {
-        return failed(3, q);
+        return items::failed(3, q);
     }
     let a = alternation(s, t, depth - 1, used, q + 1);
-    closed(s, a)
+    items::closed(s, a)
 }

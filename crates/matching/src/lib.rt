@@ -1,6 +1,6 @@
 // The pattern's line of a book: the pattern behind the word `match`, its end at the end of the text, and answers 7 and 8.
 // For crate `reader`, which calls `match_from` behind the lines.
-use grammar::Parsed;
+use items::Parsed;
 use table::Table;
 ghost use mathlib.Core.Path.{_≡_};
 ghost use Prim.Native.Nat.{ℕ, _≤_};
@@ -9,7 +9,7 @@ ghost use Rattle.form.specs.Limits.{variableLimit};
 ghost use Rattle.form.specs.Parse as Parse;
 ghost use Rattle.form.specs.Reading.{variablesOf, lastLine, allBits, matchFrom};
 ghost use Rattle.table.specs.Tables.{viewTable};
-ghost use Rattle.grammar.specs.Results.{parsedOf, Readable};
+ghost use Rattle.items.specs.Results.{parsedOf, Readable};
 
 // Behind the pattern: the LF, and nothing after it.
 fn last_line(s: &[u8], a: Parsed) -> Parsed
@@ -22,7 +22,7 @@ fn last_line(s: &[u8], a: Parsed) -> Parsed
     let p = a.place;
     let q = text::spaces_end(s, p);
     if text::peek(s, q) != text::LF {
-        return grammar::unfit(s, q);
+        return items::unfit(s, q);
     }
     if q + 1 == s.len() {
         let x = a.piece;
@@ -32,7 +32,7 @@ fn last_line(s: &[u8], a: Parsed) -> Parsed
             piece: x,
         };
     }
-    grammar::failed(2, q + 1)
+    items::failed(2, q + 1)
 }
 
 // Whether each of n variables has its bit.
@@ -56,7 +56,7 @@ pub fn match_from(s: &[u8], t: Table, p: usize) -> Parsed
     ensures { λ r. ⌜ r ≡ parsedOf (variablesOf (viewTable t .table)) 0 (matchFrom (now (s .entry)) (viewTable t) p) ⌝ }
 {
     if text::peek(s, p) != text::SPACE {
-        return grammar::failed(2, p);
+        return items::failed(2, p);
     }
     let first = text::spaces_end(s, p + 1);
     let whole = grammar::alternation(s, t, grammar::DEPTH, 0, p + 1);
@@ -66,11 +66,11 @@ pub fn match_from(s: &[u8], t: Table, p: usize) -> Parsed
     }
     let x = a.piece;
     if x.empty {
-        return grammar::failed(7, first);
+        return items::failed(7, first);
     }
     let n = t.variables;
     if all_bits(n, x.bound) {
         return a;
     }
-    grammar::failed(8, first)
+    items::failed(8, first)
 }

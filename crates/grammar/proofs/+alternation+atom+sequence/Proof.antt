@@ -9,7 +9,7 @@ use lib.Dec.{eqb}
 use Rattle.pattern.specs.Regex.{alt, cat}
 use Rattle.form.specs.Phrase.{bar, opening}
 use Rattle.form.specs.Parse.{enough}
-use Rattle.grammar.specs.Results.{Readable}
+use Rattle.items.specs.Results.{Readable}
 use Rattle.grammar.proofs.Cycle.{Parts, vars, alternated, sequenced, first-fault, first-alone, second-fault, both-in-order}
 use Rattle.grammar.proofs.Cycle.{alternation-parts, alternation-next, alternation-held, sequence-parts, sequence-next, sequence-held}
 use Rattle.grammar.proofs.Cycle.{atom-held, atom-here, atom-next, atom-name, atom-unfit, atom-deep, atom-group}
@@ -24,12 +24,12 @@ use Rattle.grammar.proofs.+alternation+atom+sequence.Lts-atom as atom-l
 use Rattle.grammar.proofs.sequence.Reads as sequence
 use Rattle.grammar.proofs.sequence.Kinds as sequence-kinds
 use Rattle.grammar.proofs.+alternation+atom+sequence.Lts-sequence as sequence-lts
-use Rattle.grammar.proofs.begins_item.Reads as begins-item-reads
-use Rattle.grammar.proofs.closed.Reads as closed-reads
-use Rattle.grammar.proofs.failed.Reads as failed-reads
-use Rattle.grammar.proofs.item.Reads as item-reads
-use Rattle.grammar.proofs.name_atom.Reads as name-atom-reads
-use Rattle.grammar.proofs.unfit.Reads as unfit-reads
+use Rattle.items.proofs.begins_item.Reads as begins-item-reads
+use Rattle.items.proofs.closed.Reads as closed-reads
+use Rattle.items.proofs.failed.Reads as failed-reads
+use Rattle.items.proofs.item.Reads as item-reads
+use Rattle.items.proofs.name_atom.Reads as name-atom-reads
+use Rattle.items.proofs.unfit.Reads as unfit-reads
 use Rattle.piece.proofs.either.Reads as either-reads
 use Rattle.piece.proofs.sequence.Reads as sequence-reads
 use Rattle.text.proofs.is_lower.Reads as is-lower-reads

@@ -5,8 +5,8 @@ use borrow.Author.Needs.{needs}
 use borrow.Author.Tests.{eq-eqb, ne-eqb}
 use Rattle.form.specs.Reading.{lastLine}
 use Rattle.parsing.proofs.Scans.{spacesEnd-le}
-use Rattle.grammar.specs.Results.{parsedOf}
-use Rattle.grammar.proofs.Leaves.{place-same, good, bad, piece-same, failed-parsed, unfit-parsed}
+use Rattle.items.specs.Results.{parsedOf}
+use Rattle.items.proofs.Leaves.{place-same, good, bad, piece-same, failed-parsed, unfit-parsed}
 use Rattle.matching.proofs.last_line.Statement.{statement}
 use Rattle.matching.proofs.last_line.Tie as tie
 

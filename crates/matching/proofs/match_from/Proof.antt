@@ -16,9 +16,9 @@ use Rattle.parsing.proofs.Fuel.{alternation-ends}
 use Rattle.piece.specs.Pieces.{pieceOf}
 use Rattle.table.specs.Tables.{viewTable, tableOf, Ready}
 use Rattle.table.specs.declared.Table.{Table}
-use Rattle.grammar.specs.Results.{parsedOf}
-use Rattle.grammar.specs.declared.Parsed.{Parsed}
-use Rattle.grammar.proofs.Leaves.{place-same, good, bad, piece-same, failed-parsed}
+use Rattle.items.specs.Results.{parsedOf}
+use Rattle.items.specs.declared.Parsed.{Parsed}
+use Rattle.items.proofs.Leaves.{place-same, good, bad, piece-same, failed-parsed}
 use Rattle.matching.proofs.match_from.Statement.{statement}
 use Rattle.matching.proofs.match_from.Tie as tie
 

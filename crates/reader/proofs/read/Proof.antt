@@ -25,9 +25,9 @@ use Rattle.lines.specs.declared.LinesRead.{LinesRead}
 use Rattle.piece.specs.Pieces.{pieceOf}
 use Rattle.piece.specs.declared.Piece.{Piece}
 use Rattle.piece.proofs.Arrays.{whole-symbols, whole-follows}
-use Rattle.grammar.specs.Results.{parsedOf, Readable}
-use Rattle.grammar.specs.declared.Parsed.{Parsed}
-use Rattle.grammar.proofs.Leaves.{fault-same, place-same, piece-same}
+use Rattle.items.specs.Results.{parsedOf, Readable}
+use Rattle.items.specs.declared.Parsed.{Parsed}
+use Rattle.items.proofs.Leaves.{fault-same, place-same, piece-same}
 use Rattle.book.specs.Answers.{answerOf}
 use Rattle.book.specs.Books.{emptyBook, bookFor, readingFor, reading}
 use Rattle.book.specs.declared.Book.{Book}

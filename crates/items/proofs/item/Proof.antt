@@ -1,4 +1,4 @@
--- `grammar::item` meets its contract: what is read from here on is what is read from the atom on.
+-- `items::item` meets its contract: what is read from here on is what is read from the atom on.
 use mathlib.Core.Path.{_≡_, refl, sym, ap, _∙_}
 use mathlib.Core.Bool.{Bool, true, false, cond, _||_, false≢true}
 use mathlib.Core.List.{[], _∷_}
@@ -18,10 +18,10 @@ use Rattle.form.specs.Scan.{at, go}
 use Rattle.form.specs.Parse as Parse
 use Rattle.parsing.proofs.Scans.{inside-of}
 use Rattle.piece.specs.Pieces.{pieceOf}
-use Rattle.grammar.specs.Results.{parsedOf, isSign, signedTree}
-use Rattle.grammar.proofs.Leaves.{place-same, good, bad, piece-same}
-use Rattle.grammar.proofs.item.Statement.{statement}
-use Rattle.grammar.proofs.item.Tie as tie
+use Rattle.items.specs.Results.{parsedOf, isSign, signedTree}
+use Rattle.items.proofs.Leaves.{place-same, good, bad, piece-same}
+use Rattle.items.proofs.item.Statement.{statement}
+use Rattle.items.proofs.item.Tie as tie
 
 -- whether the loop goes on
 abbrev on : ℕ → Bool

@@ -1,8 +1,8 @@
--- `grammar::signed` meets its contract: each sign by its own function of `piece`.
+-- `items::signed` meets its contract: each sign by its own function of `piece`.
 use borrow.Author.Needs.{needs}
 use borrow.Author.Tests.{eq-eqb, ne-eqb}
-use Rattle.grammar.proofs.signed.Statement.{statement}
-use Rattle.grammar.proofs.signed.Tie as tie
+use Rattle.items.proofs.signed.Statement.{statement}
+use Rattle.items.proofs.signed.Tie as tie
 
 star-requires : tie.Need-star-requires
 star-requires c κs = search needs

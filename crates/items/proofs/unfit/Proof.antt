@@ -1,8 +1,8 @@
--- `grammar::unfit` meets its contract: 2 past the end, 6 elsewhere.
+-- `items::unfit` meets its contract: 2 past the end, 6 elsewhere.
 use borrow.Author.Needs.{needs}
 use borrow.Author.Tests.{eq-eqb, ne-eqb}
-use Rattle.grammar.proofs.unfit.Statement.{statement}
-use Rattle.grammar.proofs.unfit.Tie as tie
+use Rattle.items.proofs.unfit.Statement.{statement}
+use Rattle.items.proofs.unfit.Tie as tie
 
 peek-requires : tie.Need-peek-requires
 peek-requires c κs = search needs

@@ -1,4 +1,4 @@
--- `grammar::name_atom` meets its contract: the symbol that `find` finds in the table's arrays is the one of the plain table.
+-- `items::name_atom` meets its contract: the symbol that `find` finds in the table's arrays is the one of the plain table.
 use mathlib.Core.Path.{_≡_, refl, sym, ap, _∙_}
 use mathlib.Core.Bool.{true, cond}
 use mathlib.Core.List.{List, List·Memᴰ, [], _∷_, map}
@@ -26,10 +26,10 @@ use Rattle.table.specs.declared.Symbol.{Symbol}
 use Rattle.table.specs.declared.Table.{Table}
 use Rattle.table.specs.Tables.{symbolOf, tableOf, viewSymbol, viewTable, inside, Ready}
 use Rattle.table.proofs.Codes.{view-symbol, names-symbols, ready-fits}
-use Rattle.grammar.specs.Results.{parsedOf}
-use Rattle.grammar.proofs.Leaves.{failed-parsed}
-use Rattle.grammar.proofs.name_atom.Statement.{statement}
-use Rattle.grammar.proofs.name_atom.Tie as tie
+use Rattle.items.specs.Results.{parsedOf}
+use Rattle.items.proofs.Leaves.{failed-parsed}
+use Rattle.items.proofs.name_atom.Statement.{statement}
+use Rattle.items.proofs.name_atom.Tie as tie
 
 -- an element of a mapped list, whatever stands for those past the end
 getD-in : {A B : Type 0} (f : A → B) (l : List A) (i : ℕ) (d : B) (e : A) → i < length l → getD (map f l) i d ≡ f (getD l i e)

@@ -37,11 +37,11 @@ use Rattle.state.specs.States.{stateOf, heldFirst, viewState}
 use Rattle.state.proofs.States.{view-state}
 use Rattle.sound.specs.Soundness.{symbolCounts, namePlaced, bookCounts, bookSound, stateSound}
 use Rattle.writer.specs.RowBytes.{rowSize}
 use Rattle.calls.specs.declared.EventAnswer.{EventAnswer}
 use Rattle.calls.specs.declared.EventAnswer.the-variants.{Accepted, OutOfForm, TooMany, NoRoom, NoSpace}
 use Rattle.calls.specs.Runs.{Lent, Made, wasAccepted}
 use Rattle.calls.specs.Calls.{unsound, leavesFreeBy, rowsBy, stateBy, roomBy}
-use Rattle.calls.proofs.States.{taken-back, held-sound, few-held, lengths, counts}
+use Rattle.demands.proofs.States.{taken-back, held-sound, few-held, lengths, counts}
 
 -- a struct that holds the book of a tracematch, as a reading hands it back
 pub record Read (b : Book) (tm : Tracematch) : Type 0 where

@@ -1,7 +1,7 @@
--- `grammar::failed` meets its contract: the fault with no fragment.
+-- `items::failed` meets its contract: the fault with no fragment.
 use borrow.Author.Needs.{needs}
-use Rattle.grammar.proofs.failed.Statement.{statement}
-use Rattle.grammar.proofs.failed.Tie as tie
+use Rattle.items.proofs.failed.Statement.{statement}
+use Rattle.items.proofs.failed.Tie as tie
 
 nothing-requires : tie.Need-nothing-requires
 nothing-requires c κs = search needs

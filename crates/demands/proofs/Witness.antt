@@ -33,10 +33,10 @@ use Rattle.disjunct.specs.Disjuncts.{viewDisjunct, disjunctOf}
 use Rattle.book.specs.Books.{readingFor, bookFor, viewBook}
 use Rattle.state.specs.States.{stateOf, heldFirst, viewState}
 use Rattle.sound.specs.Soundness.{symbolCounts, bookCounts, bookSound, slotCounts, stateCounts, stateSound}
 use Rattle.calls.specs.Calls.{freshState, rowsBy, stateBy, leavesFreeBy, roomBy, unsound, outOfForm, tooMany, noRoom, noSpace, answerTo, taken}
 use Rattle.calls.specs.Runs.{make, recordsOf, Partners, InOrder, Crossed}
 use Rattle.calls.specs.Witness.{text, declared, pattern, tm, load, dropped, xs, ys, runX, runY, answers, counts}
-use Rattle.calls.proofs.Crossed.{crossed}
+use Rattle.demands.proofs.Crossed.{crossed}
 
 proper : Proper tm
 unfolding bit join meet single isProper soundSymbol

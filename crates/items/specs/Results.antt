@@ -12,7 +12,7 @@ use Rattle.form.specs.Parse as Parse
 use Rattle.table.specs.Tables.{Ready}
 use Rattle.table.specs.declared.Table.{Table}
 use Rattle.piece.specs.Pieces.{pieceOf, noPiece}
-use Rattle.grammar.specs.declared.Parsed.{Parsed}
+use Rattle.items.specs.declared.Parsed.{Parsed}
 
 -- `vars` gives the variables that a symbol binds; `used` counts the occurrences read before
 unfoldable pub parsedOf : (vars : ℕ → ℕ) (used : ℕ) → Parse.Parsed → Parsed

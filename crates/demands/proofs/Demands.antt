@@ -5,10 +5,10 @@ use Rattle.form.specs.Text.{Bytes, Declarations}
 use Rattle.book.specs.Answers as Reading
 use Rattle.book.specs.Books.{reading}
 use Rattle.book.proofs.Bench as Bench
 use Rattle.calls.specs.Demands.{Demands}
-use Rattle.calls.proofs.Listed.{listed}
-use Rattle.calls.proofs.Answered.{answered}
-use Rattle.calls.proofs.Crossed.{crossed}
+use Rattle.demands.proofs.Listed.{listed}
+use Rattle.demands.proofs.Answered.{answered}
+use Rattle.demands.proofs.Crossed.{crossed}
 
 pub demands : (text : Bytes) → Reading.numberOf (reading text .answer) ≡ 0
     → (d : Declarations) × (r : Regex) × Demands text d r × ((e : Declarations) (q : Regex) → Demands text e q → (e ≡ d) × (q ≡ r))

@@ -31,15 +31,15 @@ use Rattle.state.specs.declared.State.{State as Struct}
 use Rattle.state.specs.States.{stateOf}
 use Rattle.tally.specs.Tallies.{tallied}
 use Rattle.writer.specs.RowBytes.{rowSize, rowBytes}
 use Rattle.calls.specs.declared.EventAnswer.{EventAnswer}
 use Rattle.calls.specs.declared.EventAnswer.the-variants.{Accepted, OutOfForm, TooMany, NoRoom, NoSpace}
 use Rattle.calls.specs.declared.Taken.{Taken}
 use Rattle.calls.specs.Calls as Calls
 use Rattle.calls.specs.Calls.{isAccepted, rowsBy, stateBy, answerTo, taken, bufferAfter, freshState}
 use Rattle.calls.specs.Runs.{Lent, Call, event, allBytes, Made, make, runFrom, runOf, wasAccepted, acceptedIn, traceOf, Within}
-use Rattle.calls.proofs.States.{number-within}
-use Rattle.calls.proofs.Bridge.{Read, read, Reached, reached-fresh, reached-next, plain, Decision, outOfForm, tooMany, noRoom, noSpace, accepted}
-use Rattle.calls.proofs.Bridge.{variables, rows-by, state-by, room-by, sound-by}
+use Rattle.demands.proofs.States.{number-within}
+use Rattle.demands.proofs.Bridge.{Read, read, Reached, reached-fresh, reached-next, plain, Decision, outOfForm, tooMany, noRoom, noSpace, accepted}
+use Rattle.demands.proofs.Bridge.{variables, rows-by, state-by, room-by, sound-by}
 
 -- What a call hands back and leaves, for any book and state.
 module _ (b : Book) (s : Struct) (l : Lent) where

@@ -33,15 +33,15 @@ use Rattle.state.specs.States.{stateOf, heldFirst, viewState}
 use Rattle.sound.specs.Soundness.{bookCounts, bookSound, stateCounts, stateSound}
 use Rattle.tally.specs.declared.Tally.{Tally}
 use Rattle.tally.specs.Tallies.{tallied}
 use Rattle.calls.specs.Answers.{Check, numberOf, firstOf}
 use Rattle.calls.specs.Calls as Calls
 use Rattle.calls.specs.Calls.{freshState, isAccepted, rowsBy, leavesFreeBy, roomBy, answerTo, taken, bufferAfter}
 use Rattle.calls.specs.Checks.{Unsound, unsoundBook, unsoundState, leftFree, OutOfForm, TooMany, NoRoom, NoSpace, FirstFailing}
 use Rattle.calls.specs.Runs.{Lent}
 use Rattle.calls.specs.declared.EventAnswer.{EventAnswer}
 use Rattle.calls.specs.declared.EventAnswer.the-variants as Answer
 use Rattle.calls.specs.declared.Taken.{Taken}
-use Rattle.calls.proofs.Course.{taken-answer, taken-refused}
+use Rattle.demands.proofs.Course.{taken-answer, taken-refused}
 
 -- Lists of checks, and the number of the first that fails.
 module _ (x : ℕ) where

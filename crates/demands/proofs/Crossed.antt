@@ -22,9 +22,9 @@ use Rattle.form.specs.Form.{Form}
 use Rattle.parsing.proofs.Accepted.{form-proper}
 use Rattle.record.specs.Records.{eventIn}
 use Rattle.book.specs.Books.{reading}
 use Rattle.calls.specs.Runs.{Call, Made, allBytes, runOf, acceptedIn, recordsOf, traceOf, Within, Partners, InOrder, Alike, Crossed}
-use Rattle.calls.proofs.Listed.{listed}
-use Rattle.calls.proofs.Tails.{tail, buffer-tail}
+use Rattle.demands.proofs.Listed.{listed}
+use Rattle.demands.proofs.Tails.{tail, buffer-tail}
 
 -- the events of records, and of partners
 event-at : (t : List Bytes) (i : ℕ) → getD (map eventIn t) i noEvent ≡ eventIn (getD t i [])

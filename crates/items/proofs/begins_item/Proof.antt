@@ -1,7 +1,7 @@
--- `grammar::begins_item` meets its contract: a letter or an opening parenthesis, test by test.
+-- `items::begins_item` meets its contract: a letter or an opening parenthesis, test by test.
 use borrow.Author.Needs.{needs}
-use Rattle.grammar.proofs.begins_item.Statement.{statement}
-use Rattle.grammar.proofs.begins_item.Tie as tie
+use Rattle.items.proofs.begins_item.Statement.{statement}
+use Rattle.items.proofs.begins_item.Tie as tie
 
 spaces-end-requires : tie.Need-spaces-end-requires
 spaces-end-requires c κs = search needs

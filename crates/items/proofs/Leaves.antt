@@ -9,8 +9,8 @@ use Rattle.form.specs.Text.{Bytes}
 use Rattle.form.specs.Scan.{at, fail}
 use Rattle.form.specs.Parse as Parse
 use Rattle.piece.specs.Pieces.{pieceOf, noPiece}
-use Rattle.grammar.specs.declared.Parsed.{Parsed}
-use Rattle.grammar.specs.Results.{parsedOf}
+use Rattle.items.specs.declared.Parsed.{Parsed}
+use Rattle.items.specs.Results.{parsedOf}
 
 module _ (vars : ℕ → ℕ) (used : ℕ) where
   module _ {a : Parsed} (x : Parse.Parsed) (e : a ≡ parsedOf vars used x) where

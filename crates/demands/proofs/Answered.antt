@@ -31,14 +31,14 @@ use Rattle.parsing.proofs.Accepted.{form-proper}
 use Rattle.record.specs.Records.{isRecord, eventIn}
 use Rattle.book.specs.Books.{reading}
 use Rattle.writer.specs.RowBytes.{rowSize}
 use Rattle.calls.specs.Answers.{numberOf}
 use Rattle.calls.specs.Calls.{taken}
 use Rattle.calls.specs.Runs.{Call, Made, Lent, allBytes, runOf, traceOf, Within, heldFrom, heldAfter}
 use Rattle.calls.specs.Runs.{TooShort, beyond, over, Judged, outOfForm, tooMany, noRoom, noSpace, accepted}
 use Rattle.calls.specs.declared.EventAnswer.{EventAnswer}
-use Rattle.calls.proofs.Bridge as Bridge
-use Rattle.calls.proofs.Bridge.{plain, Decision}
-use Rattle.calls.proofs.Course.{read-course, course-take, course-at, trace-plain, trace-formed}
+use Rattle.demands.proofs.Bridge as Bridge
+use Rattle.demands.proofs.Bridge.{plain, Decision}
+use Rattle.demands.proofs.Course.{read-course, course-take, course-at, trace-plain, trace-formed}
 
 -- one thing, or another where the first is not
 data Choice (P : Type 0) (a : ℕ) (Q : ℕ → Type 0) : ℕ → Type 0 where

@@ -1,14 +1,14 @@
--- `grammar::closed` meets its contract: one return for each case of `Parse.closed`.
+-- `items::closed` meets its contract: one return for each case of `Parse.closed`.
 use mathlib.Core.Path.{_∙_}
 use native.Mathlib.Omega.{arith}
 use borrow.Author.Needs.{needs}
 use borrow.Author.Tests.{eq-eqb, ne-eqb}
 use Rattle.form.specs.Parse as Parse
 use Rattle.parsing.proofs.Scans.{spacesEnd-le}
-use Rattle.grammar.specs.Results.{parsedOf}
-use Rattle.grammar.proofs.Leaves.{place-same, good, bad, piece-same, unfit-parsed}
-use Rattle.grammar.proofs.closed.Statement.{statement}
-use Rattle.grammar.proofs.closed.Tie as tie
+use Rattle.items.specs.Results.{parsedOf}
+use Rattle.items.proofs.Leaves.{place-same, good, bad, piece-same, unfit-parsed}
+use Rattle.items.proofs.closed.Statement.{statement}
+use Rattle.items.proofs.closed.Tie as tie
 
 returns : tie.Need-returns
 unfolding Parse.closed

@@ -16,9 +16,9 @@ use Rattle.form.specs.Form.{Form}
 use Rattle.parsing.proofs.Accepted.{form-proper}
 use Rattle.record.specs.Records.{eventIn}
 use Rattle.book.specs.Books.{reading}
 use Rattle.calls.specs.Runs.{Call, Made, allBytes, runOf, acceptedIn, traceOf, Within, Delivered}
-use Rattle.calls.proofs.Bridge.{plain}
-use Rattle.calls.proofs.Course.{read-course, accepted-at, accepted-parts, trace-plain, trace-formed}
+use Rattle.demands.proofs.Bridge.{plain}
+use Rattle.demands.proofs.Course.{read-course, accepted-at, accepted-parts, trace-plain, trace-formed}
 
 -- the text is of the stated form: by `accepted` just the texts that `read` accepts, and by `unique` with one d and one r (both in
 -- crate book, proofs/Bench.antt)

@@ -1,0 +1,13 @@
+-- The theorems of the three demands, over the definitions that the contracts cite: Listed, Answered, Crossed; all together for an
+-- accepted text: Demands; for any book and state: Checks. On the way to them: States and Bridge (structs against plain states), Course
+-- (runs against plain runs), Tails (bytes of rows). Witness has two runs to which Crossed applies.
+pub mod States
+pub mod Bridge
+pub mod Course
+pub mod Listed
+pub mod Answered
+pub mod Checks
+pub mod Tails
+pub mod Crossed
+pub mod Demands
+pub mod Witness
