@@ -1,0 +1,82 @@
+-- What the definitions of the crate meaning compute at their limits: all new labels with 128 disjuncts and one more (`full-room`), sound
+-- books and states from both sides of each limit (`sound-books`, `sound-states`). Here and not there, since an edit of meaning would compute them
+-- again each time.
+use mathlib.Core.Path.{_≡_, refl}
+use mathlib.Core.Bool.{Bool, true, false}
+use mathlib.Core.List.{List, [], _∷_, map}
+use Prim.Native.Nat.{ℕ, _-_, _^_}
+use lib.ListN.{replicate}
+use Rattle.laws.specs.Bits.{bit}
+use Rattle.laws.specs.Lists.{numbers}
+use Rattle.meaning.specs.Events.{Parameter, ignored, names, Symbol, matches, constraintOf}
+use Rattle.meaning.specs.Book.{Book, soundSymbol, soundBook}
+use Rattle.meaning.specs.Labels.{bound, free, Held, heldAt, State, compareDisjuncts, skipBy, sources, stepSet, skipSet, newLabel, newHeld}
+use Rattle.meaning.specs.Room.{setRoom, room}
+use Rattle.meaning.specs.Sound.{soundPiece, soundHeld, soundState}
+
+abbrev book : ℕ → List Symbol → List ℕ → (begins ends : ℕ) → List ℕ → Bool → Book
+book v ss os b e fs x = record { variables = v; symbols = ss; occurrences = os; begins = b; ends = e; follows = fs; empty = x }
+
+abbrev symbol : ℕ → List Parameter → Symbol
+symbol k ps = record { kind = k; parameters = ps }
+
+abbrev state : ℕ → List Held → State
+state n h = record { number = n; held = h }
+
+-- "or all new labels together exceed 128": `vars d`, a 1 d, `match a a` with 127 and with 128 disjuncts held, and one more to come
+abbrev pairs : Book
+pairs = book 1 (symbol 1 (names 0 ∷ []) ∷ []) (0 ∷ 0 ∷ []) 2 4 (4 ∷ 0 ∷ []) false
+
+abbrev many : ℕ → List Held
+many n = map (λ x. heldAt 1 (bound x ∷ [])) (numbers 0 n)
+
+pub full-room : (room pairs (many 127) (record { kind = 1; args = 900 ∷ [] }) ≡ true)
+    × (room pairs (many 128) (record { kind = 1; args = 900 ∷ [] }) ≡ false)
+unfolding bit matches constraintOf compareDisjuncts skipBy sources stepSet skipSet newLabel newHeld setRoom room
+full-room = (refl, refl)
+
+-- "Sound means: …" of a book: the first is sound, and so are the second, with all at its limit, and the third; of each other one number is
+-- out of its range
+pub sound-books : map soundBook
+    (pairs
+    ∷ book 4 (replicate 16 (symbol 255 (names 3 ∷ ignored ∷ names 0 ∷ names 3 ∷ []))) (replicate 31 15) (2 ^ 32 - 2) (2 ^ 32 - 2) (replicate 31 (2 ^ 32 - 2)) false
+    ∷ book 0 (symbol 1 [] ∷ []) (0 ∷ []) 2 2 (0 ∷ []) false
+    ∷ book 5 (symbol 1 (names 0 ∷ []) ∷ []) (0 ∷ 0 ∷ []) 2 4 (4 ∷ 0 ∷ []) false
+    ∷ book 1 [] [] 2 4 [] false
+    ∷ book 1 (replicate 17 (symbol 1 (names 0 ∷ []))) (0 ∷ 0 ∷ []) 2 4 (4 ∷ 0 ∷ []) false
+    ∷ book 1 (symbol 0 (names 0 ∷ []) ∷ []) (0 ∷ 0 ∷ []) 2 4 (4 ∷ 0 ∷ []) false
+    ∷ book 1 (symbol 256 (names 0 ∷ []) ∷ []) (0 ∷ 0 ∷ []) 2 4 (4 ∷ 0 ∷ []) false
+    ∷ book 1 (symbol 1 (replicate 5 ignored) ∷ []) (0 ∷ 0 ∷ []) 2 4 (4 ∷ 0 ∷ []) false
+    ∷ book 1 (symbol 1 (names 1 ∷ []) ∷ []) (0 ∷ 0 ∷ []) 2 4 (4 ∷ 0 ∷ []) false
+    ∷ book 1 (symbol 1 (names 0 ∷ []) ∷ []) [] 0 0 [] false
+    ∷ book 1 (symbol 1 (names 0 ∷ []) ∷ []) (replicate 32 0) 2 4 (replicate 32 0) false
+    ∷ book 1 (symbol 1 (names 0 ∷ []) ∷ []) (0 ∷ 1 ∷ []) 2 4 (4 ∷ 0 ∷ []) false
+    ∷ book 1 (symbol 1 (names 0 ∷ []) ∷ []) (0 ∷ 0 ∷ []) 3 4 (4 ∷ 0 ∷ []) false
+    ∷ book 1 (symbol 1 (names 0 ∷ []) ∷ []) (0 ∷ 0 ∷ []) 2 8 (4 ∷ 0 ∷ []) false
+    ∷ book 1 (symbol 1 (names 0 ∷ []) ∷ []) (0 ∷ 0 ∷ []) 2 4 (4 ∷ 1 ∷ []) false
+    ∷ book 1 (symbol 1 (names 0 ∷ []) ∷ []) (0 ∷ 0 ∷ []) 2 4 (4 ∷ 0 ∷ []) true
+    ∷ [])
+    ≡ true ∷ true ∷ true ∷ replicate 14 false
+unfolding bit soundBook soundSymbol
+sound-books = refl
+
+-- the same of a state
+pub sound-states : map (soundState pairs)
+    (state 0 []
+    ∷ state 1000000 (heldAt 1 (free [] ∷ []) ∷ heldAt 1 (free (1 ∷ 2 ∷ 3 ∷ 4 ∷ 5 ∷ 6 ∷ []) ∷ []) ∷ heldAt 1 (bound (2 ^ 32 - 1) ∷ []) ∷ heldAt 2 (bound 0 ∷ []) ∷ [])
+    ∷ state 1000001 []
+    ∷ state 1 (heldAt 0 (bound 1 ∷ []) ∷ [])
+    ∷ state 1 (heldAt 3 (bound 1 ∷ []) ∷ [])
+    ∷ state 1 (heldAt 1 [] ∷ [])
+    ∷ state 1 (heldAt 1 (bound (2 ^ 32) ∷ []) ∷ [])
+    ∷ state 1 (heldAt 1 (free (1 ∷ 2 ∷ 3 ∷ 4 ∷ 5 ∷ 6 ∷ 7 ∷ []) ∷ []) ∷ [])
+    ∷ state 1 (heldAt 1 (free (8 ∷ 7 ∷ []) ∷ []) ∷ [])
+    ∷ state 1 (heldAt 1 (free (7 ∷ 7 ∷ []) ∷ []) ∷ [])
+    ∷ state 1 (heldAt 1 (free (2 ^ 32 ∷ []) ∷ []) ∷ [])
+    ∷ state 1 (heldAt 1 (bound 1 ∷ []) ∷ heldAt 1 (bound 1 ∷ []) ∷ [])
+    ∷ state 1 (heldAt 2 (bound 1 ∷ []) ∷ heldAt 1 (bound 1 ∷ []) ∷ [])
+    ∷ state 1 (many 129)
+    ∷ [])
+    ≡ true ∷ true ∷ replicate 12 false
+unfolding soundState soundHeld soundPiece compareDisjuncts
+sound-states = refl
