@@ -39,7 +39,8 @@ full-room = (refl, refl)
 -- out of its range
 pub sound-books : map soundBook
     (pairs
-    ∷ book 4 (replicate 16 (symbol 255 (names 3 ∷ ignored ∷ names 0 ∷ names 3 ∷ []))) (replicate 31 15) (2 ^ 32 - 2) (2 ^ 32 - 2) (replicate 31 (2 ^ 32 - 2)) false
+    ∷ book 4 (replicate 16 (symbol 255 (names 3 ∷ ignored ∷ names 0 ∷ names 3 ∷ []))) (replicate 31 15) (2 ^ 32 - 2) (2 ^ 32 - 2)
+    (replicate 31 (2 ^ 32 - 2)) false
     ∷ book 0 (symbol 1 [] ∷ []) (0 ∷ []) 2 2 (0 ∷ []) false
     ∷ book 5 (symbol 1 (names 0 ∷ []) ∷ []) (0 ∷ 0 ∷ []) 2 4 (4 ∷ 0 ∷ []) false
     ∷ book 1 [] [] 2 4 [] false
@@ -63,7 +64,8 @@ sound-books = refl
 -- the same of a state
 pub sound-states : map (soundState pairs)
     (state 0 []
-    ∷ state 1000000 (heldAt 1 (free [] ∷ []) ∷ heldAt 1 (free (1 ∷ 2 ∷ 3 ∷ 4 ∷ 5 ∷ 6 ∷ []) ∷ []) ∷ heldAt 1 (bound (2 ^ 32 - 1) ∷ []) ∷ heldAt 2 (bound 0 ∷ []) ∷ [])
+    ∷ state 1000000
+    (heldAt 1 (free [] ∷ []) ∷ heldAt 1 (free (1 ∷ 2 ∷ 3 ∷ 4 ∷ 5 ∷ 6 ∷ []) ∷ []) ∷ heldAt 1 (bound (2 ^ 32 - 1) ∷ []) ∷ heldAt 2 (bound 0 ∷ []) ∷ [])
     ∷ state 1000001 []
     ∷ state 1 (heldAt 0 (bound 1 ∷ []) ∷ [])
     ∷ state 1 (heldAt 3 (bound 1 ∷ []) ∷ [])

@@ -187,7 +187,8 @@ table =
     -- ours: "event record out of form, or not 20 bytes": kind 0, five arguments, byte 2, byte 3, a byte beyond the count, 19 bytes, 21 bytes; 255 is a kind
     ∷ runs "vars\nsym a 255\nmatch a\n"
     (line (sent 0 []) 10 [] ∷ line (255 ∷ 5 ∷ replicate 18 0) 10 [] ∷ line (255 ∷ 0 ∷ 1 ∷ replicate 17 0) 10 [] ∷ line (255 ∷ 0 ∷ 0 ∷ 1 ∷ replicate 16 0) 10 []
-    ∷ line (255 ∷ 0 ∷ (replicate 17 0 ++ (1 ∷ []))) 10 [] ∷ line (255 ∷ replicate 18 0) 10 [] ∷ line (255 ∷ replicate 20 0) 10 [] ∷ line (sent 255 []) 0 (row 1 [] ∷ []) ∷ [])
+    ∷ line (255 ∷ 0 ∷ (replicate 17 0 ++ (1 ∷ []))) 10 [] ∷ line (255 ∷ replicate 18 0) 10 [] ∷ line (255 ∷ replicate 20 0) 10 []
+    ∷ line (sent 255 []) 0 (row 1 [] ∷ []) ∷ [])
     -- ours: a third row does not fit
     ∷ runs "vars d\nsym load 1 d\nsym stop 9\nmatch load stop\n"
     (line (sent 1 (1 ∷ [])) 0 [] ∷ line (sent 1 (2 ∷ [])) 0 [] ∷ line (sent 1 (3 ∷ [])) 0 [] ∷ line (sent 9 []) 13 [] ∷ [])

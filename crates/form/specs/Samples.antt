@@ -87,6 +87,10 @@ behind (suc n) = cat (lit 0) (behind n)
 abbrev numbered : ℕ → Bytes
 numbered b = ascii "sym " ++ (b ∷ ascii " 1\n")
 
+-- n to z, a and b
+abbrev fifteen : Bytes
+fifteen = 110 ∷ 111 ∷ 112 ∷ 113 ∷ 114 ∷ 115 ∷ 116 ∷ 117 ∷ 118 ∷ 119 ∷ 120 ∷ 121 ∷ 122 ∷ 97 ∷ 98 ∷ []
+
 -- B1
 unfoldable pub first : List Sample
 first =
@@ -118,7 +122,7 @@ full =
       tree = cat (star (opt (alt (lit 1) (lit 0)))) (cat (lit 0) (plus (lit 1)));
     })
     -- 16 symbols, z and 0; `|` divides sequences
-    ∷ accepts (118 ∷ 97 ∷ 114 ∷ 115 ∷ 10 ∷ (gather numbered (110 ∷ 111 ∷ 112 ∷ 113 ∷ 114 ∷ 115 ∷ 116 ∷ 117 ∷ 118 ∷ 119 ∷ 120 ∷ 121 ∷ 122 ∷ 97 ∷ 98 ∷ []) ++ ascii "sym z0 1\nmatch n z0|z a\n"))
+    ∷ accepts (118 ∷ 97 ∷ 114 ∷ 115 ∷ 10 ∷ (gather numbered fifteen ++ ascii "sym z0 1\nmatch n z0|z a\n"))
     (record {
       declared = record {
         variables = [];
@@ -172,7 +176,7 @@ lines =
     ∷ refuses (ascii "vars\nsym a 1\nsym a 2\n") 4 17
     ∷ refuses (ascii "vars\nsym a 1\nmatch\n") 2 18
     ∷ refuses (ascii "vars\nsym a 1\nmatch \n") 6 19
-    ∷ refuses (ascii "vars" ++ (10 ∷ gather numbered (110 ∷ 111 ∷ 112 ∷ 113 ∷ 114 ∷ 115 ∷ 116 ∷ 117 ∷ 118 ∷ 119 ∷ 120 ∷ 121 ∷ 122 ∷ 97 ∷ 98 ∷ 99 ∷ 100 ∷ []))) 3 133
+    ∷ refuses (ascii "vars" ++ (10 ∷ gather numbered (fifteen ++ (99 ∷ 100 ∷ [])))) 3 133
     ∷ []
 
 -- patterns; "No word of the pattern may be empty, and each word must contain, for each variable, a symbol that binds it."

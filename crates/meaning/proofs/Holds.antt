@@ -32,7 +32,9 @@ met-consistent σ (d ∷ ds) h =
 
 -- the demands of a symbol's places are what the places ask
 eqb-suc : (a b : ℕ) → eqb (suc a) (suc b) ≡ eqb a b
-eqb-suc a b = same-test (eqb (suc a) (suc b)) (eqb a b) (λ h. let e = eqb-true (suc a) (suc b) h in eq-eqb a b (omega arith)) (λ h. eq-eqb (suc a) (suc b) (ap suc (eqb-true a b h)))
+eqb-suc a b =
+    same-test (eqb (suc a) (suc b)) (eqb a b) (λ h. let e = eqb-true (suc a) (suc b) h in eq-eqb a b (omega arith))
+    (λ h. eq-eqb (suc a) (suc b) (ap suc (eqb-true a b h)))
 
 swapped : (a b c : Bool) → (a && (b && c)) ≡ (b && (a && c))
 swapped true b c = refl
