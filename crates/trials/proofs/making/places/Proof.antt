@@ -3,8 +3,8 @@ use mathlib.Core.Path.{_≡_}
 use Prim.Native.Nat.{_-_}
 use lib.ListN.{length}
 use borrow.Author.Needs.{needs}
-use Rattle.trials.proofs.making.parameters.Statement.{statement}
-use Rattle.trials.proofs.making.parameters.Tie as tie
+use Rattle.trials.proofs.making.places.Statement.{statement}
+use Rattle.trials.proofs.making.places.Tie as tie
 
 abbrev Inv-loop : tie.InvT-loop
 Inv-loop seed x variables out₀ at n i₀ out i = length out ≡ length out₀
