@@ -30,7 +30,7 @@ use Rattle.constraint.specs.Constraints.{viewConstraint, noConstraint}
 use Rattle.sets.specs.Sets.{disjunctsIn}
 use Rattle.book.specs.declared.Book.{Book}
 use Rattle.book.specs.Books.{viewBook}
-use Rattle.advance.specs.Held.{heldIn, heldGrown}
+use Rattle.sets.specs.Held.{heldIn, heldGrown}
 use Rattle.advance.proofs.Held.{held-grown, held-full}
 
 -- two maps that agree, element by element

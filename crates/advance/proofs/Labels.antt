@@ -14,7 +14,7 @@ use Rattle.laws.proofs.Sets.{setOf-ascending}
 use Rattle.meaning.specs.Events.{Constraint}
 use Rattle.meaning.specs.Labels.{Disjunct, compareDisjuncts, skipThrough}
 use Rattle.meaning.specs.Room.{heldLimit, skipRoom}
-use Rattle.meaning.proofs.Orders.{disjunct-order}
+use Rattle.automaton.proofs.Orders.{disjunct-order}
 use Rattle.bounded.specs.Bounded.{pick, withStart, metList, metSet, skippedThrough, labelled}
 use Rattle.sets.specs.Sets.{disjunctsIn, grownIn}
 use Rattle.sets.proofs.Sets.{grown-in, in-grown, in-full}

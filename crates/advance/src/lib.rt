@@ -25,7 +25,8 @@ ghost use Rattle.bounded.specs.Bounded.{pick, labelled, appended};
 ghost use Rattle.constraint.specs.Constraints.{viewConstraint, noConstraint, Ready};
 ghost use Rattle.sets.specs.Sets.{disjunctsIn, grownIn};
 ghost use Rattle.book.specs.Books.{viewBook};
-ghost use Rattle.advance.specs.Held.{heldIn, heldGrown, Counts};
+ghost use Rattle.book.specs.Counts.{Counts};
+ghost use Rattle.sets.specs.Held.{heldIn, heldGrown};
 
 // What one position has: its number, whether it begins, what follows it, and its symbol's constraint.
 pub struct Position {

@@ -20,8 +20,8 @@ use Rattle.pattern.proofs.Masks.{symbols-length}
 use Rattle.meaning.specs.Events.{Symbol}
 use Rattle.meaning.specs.Book as Plain
 use Rattle.meaning.specs.Book.{soundSymbol}
-use Rattle.meaning.proofs.Counts.{begin-count, end-count}
-use Rattle.meaning.proofs.Kept.{proper-sound}
+use Rattle.automaton.proofs.Counts.{begin-count, end-count}
+use Rattle.automaton.proofs.Kept.{proper-sound}
 use Rattle.form.specs.Text.{Bytes, isName, matchWord, SymbolLine, Declarations, header, tracematchOf, Span, variableSpans, symbolSpans, spans}
 use Rattle.form.specs.Limits.{textLimit, symbolLimit, parameterLimit}
 use Rattle.form.specs.Form.{Shape, Form, symbolNames, allNames, binds}

@@ -20,7 +20,7 @@ use Rattle.meaning.specs.Book.{Book, positions, beginsAt, followers, goesOn, sy
 use Rattle.meaning.specs.Labels.{Disjunct, Held, heldAt, labelOf, compareDisjuncts, compareHeld, stepSet, skipSet, newLabel, newHeld}
 use Rattle.meaning.specs.Room.{heldLimit, skipRoom, room}
 use Rattle.meaning.specs.Sound.{soundPiece, soundHeld}
-use Rattle.meaning.proofs.Orders.{held-order}
+use Rattle.automaton.proofs.Orders.{held-order}
 use Rattle.bounded.specs.Wide.{wideBook}
 use Rattle.bounded.specs.Bounded.{heldOf, labelled, appended}
 use Rattle.bounded.proofs.Picks.{label-pick, step-met}

@@ -20,7 +20,7 @@ use Rattle.meaning.specs.Events.{Event, Constraint, never, Valuation, constrain
 use Rattle.meaning.specs.Book.{Book, positions, beginsAt, endsAt, followers, symbolOf}
 use Rattle.meaning.specs.Labels.{Disjunct, isFree, compareDisjuncts, meets, met}
 use Rattle.meaning.specs.Rows.{compareValuations, valuationOf, rows}
-use Rattle.meaning.proofs.Orders.{disjunct-order, valuation-order}
+use Rattle.automaton.proofs.Orders.{disjunct-order, valuation-order}
 use Rattle.bounded.specs.Wide.{wideBook}
 use Rattle.bounded.specs.Bounded.{pick, heldOf, withStart, metList, metSet, rowLimit, rowsWith, freeIn, freeRows}
 use Rattle.bounded.proofs.Picks.{sources-pick, step-met}

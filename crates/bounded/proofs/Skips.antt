@@ -16,7 +16,7 @@ use Rattle.laws.proofs.Sets.{all-insert, all-insertAll, insert-ascending, setOf
 use Rattle.meaning.specs.Events.{Constraint, never}
 use Rattle.meaning.specs.Labels.{Disjunct, compareDisjuncts, skipOne, skipBy}
 use Rattle.meaning.specs.Room.{heldLimit, fewExclusions, setRoom}
-use Rattle.meaning.proofs.Orders.{disjunct-order}
+use Rattle.automaton.proofs.Orders.{disjunct-order}
 use Rattle.bounded.specs.Bounded.{growFew, skipped, skippedThrough}
 
 -- once full, full for good

@@ -22,10 +22,10 @@ use Rattle.meaning.specs.Labels.{Held, heldAt, compareHeld, labelOf, sources, s
 use Rattle.meaning.specs.Room.{heldLimit, fewExclusions, setRoom, skipRoom, room}
 use Rattle.meaning.specs.Rows.{compareValuations, valuationOf, rows, leavesFree}
 use Rattle.meaning.specs.Sound.{soundEntry, soundPiece, soundHeld}
-use Rattle.meaning.proofs.Orders.{disjunct-order, held-order, valuation-order}
-use Rattle.meaning.proofs.Step.{Long, skipOne-long, skipBy-long, numbered-inRange, symbols-inRange}
-use Rattle.meaning.proofs.Step.{label-long, sources-long, stepSet-long, skipSet-long}
-use Rattle.meaning.proofs.Fits.{inRange, met-length}
+use Rattle.automaton.proofs.Orders.{disjunct-order, held-order, valuation-order}
+use Rattle.automaton.proofs.Step.{Long, skipOne-long, skipBy-long, numbered-inRange, symbols-inRange}
+use Rattle.automaton.proofs.Step.{label-long, sources-long, stepSet-long, skipSet-long}
+use Rattle.automaton.proofs.Fits.{inRange, met-length}
 use Rattle.bounded.specs.Wide.{wide, wideHeld, wideValuation, wideBook}
 use Rattle.bounded.specs.Bounded.{metList, freeIn, freeRows}
 use Rattle.bounded.proofs.WideDisjuncts.{wide-length, wide-take, wide-compare, wideValuation-compare, wide-few, wide-entries, wide-free-disjunct}

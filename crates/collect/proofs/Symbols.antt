@@ -26,7 +26,8 @@ use Rattle.constraint.specs.Constraints.{viewConstraint, noConstraint}
 use Rattle.sets.specs.Sets.{disjunctsIn}
 use Rattle.book.specs.declared.Book.{Book}
 use Rattle.book.specs.Books.{viewBook}
-use Rattle.advance.specs.Held.{heldIn, Counts}
+use Rattle.book.specs.Counts.{Counts}
+use Rattle.sets.specs.Held.{heldIn}
 
 -- an element that is there does not depend on what stands for one that is not
 getD-any : {A : Type 0} (l : List A) (i : ℕ) (c d : A) → i < length l → getD l i c ≡ getD l i d

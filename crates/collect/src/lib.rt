@@ -28,7 +28,8 @@ ghost use Rattle.constraint.specs.Constraints.{viewConstraint, noConstraint, Re
 ghost use Rattle.disjunct.specs.Disjuncts.{viewDisjunct};
 ghost use Rattle.sets.specs.Sets.{disjunctsIn};
 ghost use Rattle.book.specs.Books.{viewBook};
-ghost use Rattle.advance.specs.Held.{heldIn, Counts};
+ghost use Rattle.book.specs.Counts.{Counts};
+ghost use Rattle.sets.specs.Held.{heldIn};
 ghost use Rattle.rows.specs.Valuations.{valuationsIn, rowsGrown};
 
 // The row that d gives with c, put among the first m.
@@ -37,7 +38,7 @@ fn add_row(out: &mut rows::Words, m: usize, d: Disjunct, c: Constraint) -> usize
     ensures { λ r. ⌜ rowsGrown r (now (out .exit)) ≡ rowsWith (viewConstraint c) (viewDisjunct d ∷ [])
         (Grown.grown (take m (valuationsIn (now (out .entry))))) ⌝ }
 {
-    let x = d.meet(c);
+    let x = meeting::meet(d, c);
     if x.ok {
         let e = x.disjunct;
         return rows::insert_row(out, m, e.values());
@@ -143,7 +144,7 @@ fn free_met(d: Disjunct, c: Constraint, v: usize) -> bool
     requires { ⌜ (v ≤ variableLimit) × Ready c ⌝ }
     ensures { λ r. ⌜ r ≡ freeIn v (viewConstraint c) (viewDisjunct d ∷ []) ⌝ }
 {
-    let x = d.meet(c);
+    let x = meeting::meet(d, c);
     if x.ok {
         let e = x.disjunct;
         return e.leaves_free(v);

@@ -18,10 +18,10 @@ use Rattle.meaning.specs.Rows.{rows}
 use Rattle.meaning.specs.Sound.{eventLimit}
 use Rattle.meaning.specs.Runs as Runs
 use Rattle.meaning.specs.Runs.{Listed}
-use Rattle.meaning.proofs.Kept.{state-after}
-use Rattle.meaning.proofs.Listed as Plain
-use Rattle.meaning.proofs.NoRoom.{no-room}
-use Rattle.meaning.proofs.Orders.{valuation-order}
+use Rattle.automaton.proofs.Kept.{state-after}
+use Rattle.automaton.proofs.Listed as Plain
+use Rattle.automaton.proofs.NoRoom.{no-room}
+use Rattle.automaton.proofs.Orders.{valuation-order}
 use Rattle.laws.specs.Lists.{all}
 use Rattle.laws.proofs.Lists.{all-append}
 use Rattle.laws.proofs.Sets.{same-members}

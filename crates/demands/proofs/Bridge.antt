@@ -21,8 +21,8 @@ use Rattle.meaning.specs.Room.{room}
 use Rattle.meaning.specs.Rows.{rows}
 use Rattle.meaning.specs.Sound.{soundState, soundHeld, eventLimit}
 use Rattle.meaning.specs.Runs as Runs
-use Rattle.meaning.proofs.Kept.{kept, proper-sound, state-after}
-use Rattle.meaning.proofs.Bound.{none-left-free}
+use Rattle.automaton.proofs.Kept.{kept, proper-sound, state-after}
+use Rattle.automaton.proofs.Bound.{none-left-free}
 use Rattle.form.specs.Text.{Bytes, Declarations, tracematchOf}
 use Rattle.form.specs.Limits.{textLimit}
 use Rattle.form.specs.Form.{Form}

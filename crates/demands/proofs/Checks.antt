@@ -15,10 +15,10 @@ use Rattle.meaning.specs.Book.{soundBook, positions, endsAt, symbolOf}
 use Rattle.meaning.specs.Labels.{Disjunct, Held, isFree, meets, met, sources, stepSet}
 use Rattle.meaning.specs.Rows.{rows, leavesFree}
 use Rattle.meaning.specs.Sound.{soundHeld, soundState, eventLimit}
-use Rattle.meaning.proofs.Bound.{closed}
-use Rattle.meaning.proofs.Few.{few-rows}
-use Rattle.meaning.proofs.Members.{stepSet-member}
-use Rattle.meaning.proofs.NoRoom.{no-room}
+use Rattle.automaton.proofs.Bound.{closed}
+use Rattle.automaton.proofs.Few.{few-rows}
+use Rattle.automaton.proofs.Members.{stepSet-member}
+use Rattle.automaton.proofs.NoRoom.{no-room}
 use Rattle.laws.proofs.Lists.{any-found, mem-keep, same-test, and-true-split, and-false-split, or-true-split, or-false-split, either}
 use Rattle.form.specs.Text.{Bytes}
 use Rattle.record.specs.Records.{isRecord, eventIn}

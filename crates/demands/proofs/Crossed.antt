@@ -15,8 +15,8 @@ use Rattle.meaning.specs.Events.{Event, Valuation, isValuation}
 use Rattle.meaning.specs.Meaning.{Tracematch, noEvent}
 use Rattle.meaning.specs.Book.{Proper}
 use Rattle.meaning.specs.Runs.{Listed, Pairing, Ordered}
-use Rattle.meaning.proofs.Crossed.{partner-rows}
-use Rattle.meaning.proofs.Orders.{valuation-order}
+use Rattle.automaton.proofs.Crossed.{partner-rows}
+use Rattle.automaton.proofs.Orders.{valuation-order}
 use Rattle.form.specs.Text.{Bytes, Declarations, tracematchOf}
 use Rattle.form.specs.Form.{Form}
 use Rattle.parsing.proofs.Accepted.{form-proper}

@@ -10,7 +10,7 @@ use Rattle.pattern.specs.Regex.{Regex}
 use Rattle.meaning.specs.Book.{bookOf}
 use Rattle.meaning.specs.Rows.{rows}
 use Rattle.meaning.specs.Runs as Runs
-use Rattle.meaning.proofs.Listed as Plain
+use Rattle.automaton.proofs.Listed as Plain
 use Rattle.form.specs.Text.{Bytes, Declarations, tracematchOf}
 use Rattle.form.specs.Form.{Form}
 use Rattle.parsing.proofs.Accepted.{form-proper}

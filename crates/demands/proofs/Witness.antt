@@ -18,7 +18,7 @@ use Rattle.meaning.specs.Room.{setRoom, room}
 use Rattle.meaning.specs.Rows.{rows, leavesFree}
 use Rattle.meaning.specs.Runs.{Dependent}
 use Rattle.meaning.specs.Sound.{soundPiece, soundHeld, soundState}
-use Rattle.meaning.proofs.ProperTest.{proper-test}
+use Rattle.automaton.proofs.ProperTest.{proper-test}
 use Rattle.form.specs.Text.{Bytes, ascii, decimal, header, text as textOf}
 use Rattle.form.specs.Phrase.{symbol, plain, plussed, last, then, only}
 use Rattle.form.specs.Form.{Form}

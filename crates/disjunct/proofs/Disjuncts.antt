@@ -24,10 +24,8 @@ use Rattle.slot.specs.Slots.{viewSlot, slotOf}
 use Rattle.slot.proofs.Slots.{view-slot, few-excluded}
 use Rattle.slot.proofs.Slot as slots
 use Rattle.disjunct.specs.declared.Disjunct.{Disjunct}
-use Rattle.disjunct.specs.declared.Met.{Met}
 use Rattle.disjunct.specs.Disjuncts.{viewDisjunct, disjunctOf}
 use Rattle.disjunct.proofs.Disjunct as disjuncts
-use Rattle.disjunct.proofs.Met as mets
 
 view-slots : (D : Labels.Disjunct) → map viewSlot (map slotOf D) ≡ D
 view-slots [] = refl
@@ -78,10 +76,6 @@ pub sized : (d : Disjunct) {vs : List Val} → Is disjuncts.the-row d vs → Siz
 sized d h =
     let a = h .1 .1 .0 in
     record { four = sym (length-map (d .vars) (slots.the-field .into)) ∙ a .1 .0 .1; six = six-slots (d .vars) (a .0) (a .1 .1) }
-
--- of what a meeting or an exclusion gives
-pub sized-met : (m : Met) {vs : List Val} → Is mets.the-row m vs → Sized (m .disjunct)
-sized-met m h = sized (m .disjunct) (h .1 .1 .1 .0)
 
 -- of each disjunct of an array: with a the array's part of `c .good`, us is a .0 and the fact a .1 .1
 pub sized-in : (l : List Disjunct) (us : List Val)

@@ -1,5 +1,3 @@
--- The code's disjunct against the plain one: laws for the crates above (Disjuncts), what the functions of this crate share (Slots),
--- and what a meeting needs (Meeting).
+-- The code's disjunct against the plain one: laws for the crates above (Disjuncts), and what the functions over slots share (Slots).
 pub mod Disjuncts
 pub mod Slots
-pub mod Meeting

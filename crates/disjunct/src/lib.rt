@@ -1,32 +1,17 @@
-// The disjunct: what it says of each of four variables; meeting, exclusion and the order. For the matcher's sets.
-use constraint::Constraint;
-use slot::SAME;
+// The disjunct: what it says of each of four variables. For the matcher's sets; meeting and exclusion are in `meeting`, the order in `ordering`.
 use slot::Slot;
 ghost use mathlib.Core.Path.{_≡_};
-ghost use mathlib.Core.Bool.{true, false};
-ghost use mathlib.Core.List.{map};
-ghost use Prim.Native.Nat.{compare, _≤_, _<_};
-ghost use lib.Dec.{leb};
-ghost use lib.ListN.{length, take};
+ghost use Prim.Native.Nat.{_≤_, _<_};
+ghost use lib.ListN.{take};
 ghost use Rattle.laws.specs.Lists.{any};
-ghost use Rattle.laws.specs.Order.{lex};
 ghost use Rattle.meaning.specs.Labels as Labels;
-ghost use Rattle.meaning.specs.Room.{exclusionLimit};
 ghost use Rattle.meaning.specs.Rows.{valuationOf};
 ghost use Rattle.meaning.specs.Limits.{variableLimit};
-ghost use Rattle.slot.specs.Slots.{rank};
-ghost use Rattle.constraint.specs.Constraints.{viewConstraint, Ready};
 ghost use Rattle.disjunct.specs.Disjuncts.{viewDisjunct, disjunctOf};
 
 // A slot for each of four variables; those beyond the book's variables are free.
 pub struct Disjunct {
     pub vars: [Slot; Disjunct::VARIABLES],
-}
-
-// What a meeting or an exclusion gives: a disjunct, or (ok false) none; then the disjunct as it was.
-pub struct Met {
-    pub ok: bool,
-    pub disjunct: Disjunct,
 }
 
 impl Disjunct {
@@ -44,42 +29,6 @@ impl Disjunct {
         }
     }
 
-    // "Meeting a disjunct with a constraint yields a new disjunct or false"
-    pub fn meet(self, c: Constraint) -> Met
-        requires { ⌜ Ready c ⌝ }
-        ensures { λ r. ⌜ (r .ok ≡ Labels.meets (viewDisjunct self) (viewConstraint c))
-            × (r .ok ≡ true → viewDisjunct (r .disjunct) ≡ Labels.met (viewDisjunct self) (viewConstraint c))
-            × (r .ok ≡ false → r .disjunct ≡ self) ⌝ }
-    {
-        let mut d = self;
-        let n = c.count;
-        if c.ok {
-            let mut i: usize = 0;
-            while i < n {
-                let x = c.demands[i];
-                let v = x.variable as usize;
-                let s = d.vars[v];
-                if s.admits(x.value) {
-                    d.vars[v] = Slot::holding(x.value);
-                    i += 1;
-                } else {
-                    return Met {
-                        ok: false,
-                        disjunct: self,
-                    };
-                }
-            }
-            return Met {
-                ok: true,
-                disjunct: d,
-            };
-        }
-        Met {
-            ok: false,
-            disjunct: self,
-        }
-    }
-
     // Whether variable v is free.
     pub fn is_free(self, v: usize) -> bool
         requires { ⌜ v < variableLimit ⌝ }
@@ -88,75 +37,6 @@ impl Disjunct {
         let s = self.vars[v];
         let bound = s.bound;
         !bound
-    }
-
-    // x excluded at variable v; not the seventh one.
-    pub fn exclude(self, v: usize, x: u32) -> Met
-        requires { ⌜ v < variableLimit ⌝ }
-        ensures { λ r. ⌜ (r .ok ≡ leb (length (Labels.exclusions (Labels.excluding (Labels.entryOf (viewDisjunct self) v) x))) exclusionLimit)
-            × (r .ok ≡ true → viewDisjunct (r .disjunct) ≡ Labels.exclude (viewDisjunct self) (record { variable = v; value = x }))
-            × (r .ok ≡ false → r .disjunct ≡ self) ⌝ }
-    {
-        let s = self.vars[v];
-        let e = s.excluding(x);
-        if e.ok {
-            let t = e.slot;
-            let mut d = self;
-            d.vars[v] = t;
-            return Met {
-                ok: true,
-                disjunct: d,
-            };
-        }
-        Met {
-            ok: false,
-            disjunct: self,
-        }
-    }
-
-    // By values, a free variable before any value.
-    fn compare_values(self, other: Disjunct) -> u32
-        ensures { λ r. ⌜ r ≡ rank (lex compare (map Labels.valueKey (viewDisjunct self)) (map Labels.valueKey (viewDisjunct other))) ⌝ }
-    {
-        let mut i: usize = 0;
-        while i < Disjunct::VARIABLES {
-            let s = self.vars[i];
-            let t = other.vars[i];
-            let o = s.compare_values(t);
-            if o != SAME {
-                return o;
-            }
-            i += 1;
-        }
-        SAME
-    }
-
-    // By exclusion lists.
-    fn compare_exclusions(self, other: Disjunct) -> u32
-        ensures { λ r. ⌜ r ≡ rank (lex (lex compare) (map Labels.exclusions (viewDisjunct self)) (map Labels.exclusions (viewDisjunct other))) ⌝ }
-    {
-        let mut i: usize = 0;
-        while i < Disjunct::VARIABLES {
-            let s = self.vars[i];
-            let t = other.vars[i];
-            let o = s.compare_exclusions(t);
-            if o != SAME {
-                return o;
-            }
-            i += 1;
-        }
-        SAME
-    }
-
-    // "by values (a free variable before any value), then by exclusion lists, a list before any that it begins"
-    pub fn order(self, other: Disjunct) -> u32
-        ensures { λ r. ⌜ r ≡ rank (Labels.compareDisjuncts (viewDisjunct self) (viewDisjunct other)) ⌝ }
-    {
-        let o = self.compare_values(other);
-        if o == SAME {
-            return self.compare_exclusions(other);
-        }
-        o
     }
 
     // The first n variables as they are, the others free, and all that is not counted zero.

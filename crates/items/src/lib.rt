@@ -98,8 +98,8 @@ pub fn name_atom(s: &[u8], t: Table, used: usize, q: usize) -> Parsed
     requires { ⌜ Readable (now s) t used q ⌝ }
     ensures { λ r. ⌜ r ≡ parsedOf (variablesOf (viewTable t .table)) used (Parse.nameAtom (now (s .entry)) (viewTable t .symbols) used q) ⌝ }
 {
-    let e = text::name_end(s, q);
-    if text::NAME_LIMIT < e - q {
+    let e = words::name_end(s, q);
+    if words::NAME_LIMIT < e - q {
         return failed(3, q);
     }
     if piece::POSITIONS <= used {
@@ -109,7 +109,7 @@ pub fn name_atom(s: &[u8], t: Table, used: usize, q: usize) -> Parsed
     let n = t.count;
     let to = from + n;
     let names = t.names;
-    let a = table::find(s, names, from, to, q, e);
+    let a = lookup::find(s, names, from, to, q, e);
     if a < n {
         let y = t.symbols[a];
         let bound = table::bound_in(y);

@@ -1,5 +1,5 @@
--- The laws of the definitions in ../specs, a file for each; sets under a map (Maps); lists and sets that code keeps in arrays (Places),
--- and the turns of loops over such a set (Turns); what is known of lent bytes (Slices).
+-- The laws of the definitions in ../specs, a file for each; sets under a map (Maps); lists and sets that code keeps in arrays (Arrays), the
+-- turns of loops over such a set (Turns) and arrays that a loop fills (Fills); what is known of lent bytes (Slices).
 pub mod Lists
 pub mod Bits
 pub mod Order
@@ -8,4 +8,5 @@ pub mod Parts
 pub mod Maps
 pub mod Arrays
 pub mod Turns
+pub mod Fills
 pub mod Slices

@@ -40,12 +40,12 @@ fn declare_fault(s: &[u8], t: Table, to: usize, p: usize, e: usize) -> usize
     requires { ⌜ Ready (now s) t × (to ≤ t .variables + t .count) × (p ≤ e) × (e ≤ length (now s)) ⌝ }
     ensures { λ r. ⌜ r ≡ Lines.declareFault (now (s .entry)) (map spanOf (take to (t .names))) p e ⌝ }
 {
-    let f = text::name_fault(s, p, e);
+    let f = words::name_fault(s, p, e);
     if f != 0 {
         return f;
     }
     let names = t.names;
-    if table::find(s, names, 0, to, p, e) < to {
+    if lookup::find(s, names, 0, to, p, e) < to {
         return 4;
     }
     0
@@ -115,13 +115,13 @@ fn argument_fault(s: &[u8], t: Table, p: usize, e: usize) -> usize
     if is_ignored(s, p, e) {
         return 0;
     }
-    let f = text::name_fault(s, p, e);
+    let f = words::name_fault(s, p, e);
     if f != 0 {
         return f;
     }
     let names = t.names;
     let to = t.variables;
-    if table::find(s, names, 0, to, p, e) < to {
+    if lookup::find(s, names, 0, to, p, e) < to {
         return 0;
     }
     5
@@ -137,7 +137,7 @@ fn argument_of(s: &[u8], t: Table, p: usize, e: usize) -> Parameter
     }
     let names = t.names;
     let to = t.variables;
-    let v = table::find(s, names, 0, to, p, e);
+    let v = lookup::find(s, names, 0, to, p, e);
     Parameter {
         tag: 1,
         number: v as u32,
@@ -212,7 +212,7 @@ fn kind_from(s: &[u8], t: Table, name: Name, p: usize) -> SymbolRead
         return no_symbol_read(k.fault, q);
     }
     let e = text::word_end(s, q);
-    let kind = text::kind_of(s, q, e);
+    let kind = words::kind_of(s, q, e);
     if kind == 0 {
         return no_symbol_read(2, q);
     }

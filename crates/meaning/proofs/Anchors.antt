@@ -1,18 +1,23 @@
 -- What the definitions compute, by computation from them alone, so that a wrong one is refused here first, because a fact is false. `starred`:
 -- every starred roast that is an event run comes out as document 01 has it; `on-the-way`, `partial-held`, `mixed-held`, `thrice-held` and `full`
--- are further cases about room and about what is held.
+-- are further cases about room and about what is held; `unconcerned` and `exchanged` are cases that the declarative meaning and demand 3 rule
+-- out.
 use mathlib.Core.Path.{_≡_, refl}
-use mathlib.Core.Bool.{Bool, true, false}
-use mathlib.Core.List.{List, [], map}
+use mathlib.Core.Bool.{Bool, true, false, false≢true}
+use mathlib.Core.List.{List, [], _∷_, map}
+use Prim.Native.Nat.{ℕ}
+use native.Mathlib.Omega.{arith}
 use lib.ListN.{replicate}
 use Rattle.laws.specs.Bits.{bit, join, meet, single}
 use Rattle.laws.specs.Lists.{all}
-use Rattle.meaning.specs.Events.{matches, constraintOf, wellFormed}
+use Rattle.pattern.specs.Regex.{lit}
+use Rattle.meaning.specs.Events.{Event, names, matches, constraintOf, wellFormed, isValuation, holds, concerns}
+use Rattle.meaning.specs.Meaning.{Tracematch, noEvent, Row}
 use Rattle.meaning.specs.Book.{bookOf, isProper, soundSymbol}
 use Rattle.meaning.specs.Labels.{compareDisjuncts, skipBy, sources, stepSet, skipSet, newLabel, newHeld}
 use Rattle.meaning.specs.Room.{setRoom, room}
 use Rattle.meaning.specs.Rows.{rows}
-use Rattle.meaning.specs.Runs.{heldAfter}
+use Rattle.meaning.specs.Runs.{heldAfter, Pairing, Ordered}
 use Rattle.meaning.specs.Starred.{Case, Answer, answers, table, onTheWay, partial, partialCalls, partialHeld}
 use Rattle.meaning.specs.Starred.{mixed, mixedCalls, mixedHeld, thrice, thriceCalls, thriceHeld}
 
@@ -48,3 +53,23 @@ thrice-held = refl
 pub full : (setRoom (replicate 128 []) ≡ true) × (setRoom (replicate 129 []) ≡ false)
 unfolding setRoom
 full = (refl, refl)
+
+-- `vars d`, `sym a 1 d`, `match a`, and its event with argument x
+abbrev once : Tracematch
+once = record { variables = 1; symbols = record { kind = 1; parameters = names 0 ∷ [] } ∷ []; pattern = lit 0 }
+
+abbrev one : ℕ → Event
+one x = record { kind = 1; args = x ∷ [] }
+
+-- "the valuations that the event concerns": a(5) was a match for d = 5, and a(6) behind it makes no row of it again
+pub unconcerned : Row once (one 5 ∷ one 6 ∷ []) 2 (5 ∷ []) → ⊥
+unfolding holds concerns
+unconcerned r = false≢true (r .concerned)
+
+-- "dependent ones in the same order": two that concern d = 5 are not exchanged
+pub exchanged : (p : Pairing noEvent (one 5 ∷ one 5 ∷ []) (one 5 ∷ one 5 ∷ [])) → p .to 0 ≡ 1 → p .to 1 ≡ 0
+    → Ordered noEvent (λ e. e) once (one 5 ∷ one 5 ∷ []) (one 5 ∷ one 5 ∷ []) p → ⊥
+unfolding isValuation holds concerns
+exchanged p e f o =
+    let k = o .keeps 0 1 (omega arith) (omega arith) (record { common = 5 ∷ []; valuation = refl; first = refl; second = refl }) in
+    omega (arith, e, f, k)

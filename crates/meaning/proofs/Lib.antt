@@ -1,24 +1,4 @@
--- The theorems about the meaning: demand 2 is Listed, demand 3 is Crossed, the ground of "never gets 9" is Kept. Members
--- (what each set holds), NoRoom (when there is no room), Counts and ProperTest say what the definitions compute; Anchors has what they
--- give for the starred roasts and a few cases more. Below them: Holds (the matcher's constraint says what `holds` says), Orders (the
--- comparisons), Fits (disjuncts read for one valuation), Step (step and skip sets so read), Stems (where the disjuncts of a new state
--- stem from), Automaton (the pattern's positions run for one valuation, against the declarative meaning), Reduced (a row depends on the
--- reduced trace alone), Bound (no row leaves a variable free).
+-- What can be said of the definitions by themselves: Anchors has what they compute for the starred roasts and a few cases more, Holds that
+-- the matcher's constraint says what `holds` says. The theorems about the meaning are in the crate automaton.
 pub mod Anchors
 pub mod Holds
-pub mod Orders
-pub mod Members
-pub mod Fits
-pub mod Step
-pub mod Stems
-pub mod Automaton
-pub mod Reduced
-pub mod Bound
-pub mod Listed
-pub mod Crossed
-pub mod Kept
-pub mod Few
-pub mod NoRoom
-pub mod Counts
-pub mod ProperTest
-pub mod Starred

@@ -1,5 +1,5 @@
 -- Runs on plain data, their trace and their rows, and what demands 2 and 3 say of them: document 01, "Crossed messages". A step
--- to the runs of the crate calls, which are lists of event calls over bytes. Theorems: ../proofs/Listed.antt, ../proofs/Crossed.antt.
+-- to the runs of the crate calls, which are lists of event calls over bytes. Theorems: crate automaton, Listed and Crossed.
 use mathlib.Core.Path.{_≡_}
 use mathlib.Core.Bool.{Bool, true, false}
 use mathlib.Core.List.{List, [], _∷_, List·Memᴰ}

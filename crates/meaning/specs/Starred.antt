@@ -1,5 +1,5 @@
 -- The starred roasts of document 01 that are event runs: for each a tracematch, the events sent, and what the watch
--- answers to each. Books are written as tracematches. The theorem about the whole table is in ../proofs/Starred.antt.
+-- answers to each. Books are written as tracematches. Computed: ../proofs/Anchors.antt.
 use mathlib.Core.Bool.{true, false, cond}
 use mathlib.Core.List.{List, [], _∷_}
 use Prim.Native.Nat.{ℕ}

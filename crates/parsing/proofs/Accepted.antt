@@ -16,7 +16,7 @@ use Rattle.pattern.specs.Regex.{Regex, lit, In, nullable, boundBy}
 use Rattle.pattern.specs.Positions as Positions
 use Rattle.pattern.proofs.Words as Words
 use Rattle.meaning.specs.Book.{Proper}
-use Rattle.meaning.proofs.ProperTest.{bit-boundIn, all-below}
+use Rattle.automaton.proofs.ProperTest.{bit-boundIn, all-below}
 use Rattle.form.specs.Text.{Bytes, matchWord, Declarations, SymbolLine, header, symbolOf, tracematchOf, spans}
 use Rattle.form.specs.Tokens.{Token}
 use Rattle.form.specs.Phrase.{Phrase, Level, symbol, group, plain, starred, plussed, optional, last, then, only, or}

@@ -89,19 +89,19 @@ fn demanding(x: u32, y: u32) -> Constraint
 // The free disjunct met with the constraint.
 fn bound() -> Disjunct {
     let d = Disjunct::free();
-    let m = d.meet(demanding(1, 7));
+    let m = meeting::meet(d, demanding(1, 7));
     m.disjunct
 }
 
 fn meetings(s: Score) -> Score {
     let d = Disjunct::free();
-    let m = d.meet(demanding(1, 7));
+    let m = meeting::meet(d, demanding(1, 7));
     let e = m.disjunct;
     let mut t = s.with(m.ok);
     t = t.with_words(e.values(), [1, 7, 0, 0]);
-    let again = e.meet(demanding(1, 7));
+    let again = meeting::meet(e, demanding(1, 7));
     t = t.with(again.ok);
-    let other = e.meet(demanding(2, 7));
+    let other = meeting::meet(e, demanding(2, 7));
     t.with(!other.ok)
 }
 
@@ -111,7 +111,7 @@ fn insertions(s: Score) -> Score {
     let n = sets::insert(&mut words, 0, d);
     let t = s.with(n == 1);
     let e = sets::get(&words, 0);
-    t.with(e.order(d) == 1)
+    t.with(ordering::order(e, d) == 1)
 }
 
 // Whether all that d says is that variable v is not x.
@@ -119,8 +119,8 @@ fn only_excludes(d: Disjunct, v: usize, x: u32) -> bool
     requires { ⌜ v < 4 ⌝ }
 {
     let f = Disjunct::free();
-    let e = f.exclude(v, x);
-    e.ok && d.order(e.disjunct) == 1
+    let e = meeting::exclude(f, v, x);
+    e.ok && ordering::order(d, e.disjunct) == 1
 }
 
 // The free disjunct past the constraint: one disjunct for each variable, the one without exclusions at variable 0 first.

@@ -13,7 +13,7 @@ use Rattle.laws.specs.Order.{ascending}
 use Rattle.laws.specs.Sets.{insert, insertAll, within}
 use Rattle.laws.proofs.Sets.{insert-ascending}
 use Rattle.meaning.specs.Labels.{Disjunct, compareDisjuncts}
-use Rattle.meaning.proofs.Orders.{disjunct-order}
+use Rattle.automaton.proofs.Orders.{disjunct-order}
 use Rattle.sets.specs.Sets.{disjunctsIn, grownIn}
 use Rattle.laws.proofs.Arrays.{behind-more, insertAll-more, insertAll-over}
 use Rattle.laws.proofs.Turns.{counted-few, few-counted, over-counted}

@@ -1,2 +1,3 @@
--- A set of disjuncts in lent words.
+-- A set of disjuncts in lent words (Sets), and what is held, positions beside disjuncts (Held).
 pub mod Sets
+pub mod Held

@@ -136,7 +136,7 @@ fn insertion_point(words: &Words, n: usize, d: Disjunct) -> Insertion
     let mut i = n;
     while 0 < i {
         let e = get(words, i - 1);
-        let o = d.order(e);
+        let o = ordering::order(d, e);
         if o == AFTER {
             return Insertion {
                 found: false,

@@ -54,7 +54,7 @@ fn skip_from(d: Disjunct, c: Constraint, i: usize, out: &mut Words, m: usize) ->
     let x = c.demands[i];
     let v = x.variable as usize;
     if d.is_free(v) {
-        let e = d.exclude(v, x.value);
+        let e = meeting::exclude(d, v, x.value);
         if e.ok {
             let f = e.disjunct;
             let k = sets::insert(out, m, f);
@@ -74,7 +74,7 @@ fn skip_one(d: Disjunct, c: Constraint, out: &mut Words, m: usize) -> usize
     ensures { λ r. ⌜ grownIn r (now (out .exit)) ≡ growFew (skipOne (viewConstraint c) (viewDisjunct d))
         (Grown.grown (take m (disjunctsIn (now (out .entry))))) ⌝ }
 {
-    let x = d.meet(c);
+    let x = meeting::meet(d, c);
     if x.ok {
         return skip_from(d, c, 0, out, m);
     }

@@ -1,15 +1,14 @@
-// What a disjunct says of one variable: a value, or free with up to six excluded values. For the disjunct.
+// What a disjunct says of one variable: a value, or free with up to six excluded values. For the disjunct; the order is in `ordering`.
 ghost use mathlib.Core.Path.{_≡_};
 ghost use mathlib.Core.Bool.{true, false};
 ghost use mathlib.Core.List.{[], _∷_, _++_};
-ghost use Prim.Native.Nat.{suc, compare, _≤_, _<_};
+ghost use Prim.Native.Nat.{suc, _≤_, _<_};
 ghost use lib.Dec.{eqb, leb};
 ghost use lib.ListN.{length, take, drop};
 ghost use Rattle.laws.specs.Lists.{any};
-ghost use Rattle.laws.specs.Order.{lex};
 ghost use Rattle.meaning.specs.Labels as Labels;
 ghost use Rattle.meaning.specs.Room.{exclusionLimit};
-ghost use Rattle.slot.specs.Slots.{viewSlot, slotOf, rank, smaller};
+ghost use Rattle.slot.specs.Slots.{viewSlot, slotOf, smaller};
 
 // "at most 6 excluded values"
 pub const EXCLUSIONS: usize = 6;
@@ -174,56 +173,6 @@ impl Slot {
             count: n,
             excluded: xs,
         }
-    }
-
-    // 0 for a free variable, one more than its value for a bound one: the order of values.
-    fn key(self) -> u64
-        ensures { λ r. ⌜ r ≡ Labels.valueKey (viewSlot self) ⌝ }
-    {
-        let x = self.value as u64;
-        if self.bound { x + 1 } else { 0 }
-    }
-
-    // Values compared, a free variable before any value.
-    pub fn compare_values(self, other: Slot) -> u32
-        ensures { λ r. ⌜ r ≡ rank (compare (Labels.valueKey (viewSlot self)) (Labels.valueKey (viewSlot other))) ⌝ }
-    {
-        let a = self.key();
-        let b = other.key();
-        if a < b {
-            return BEFORE;
-        }
-        if a == b {
-            return SAME;
-        }
-        AFTER
-    }
-
-    // Exclusion lists compared, a list before any that it begins.
-    pub fn compare_exclusions(self, other: Slot) -> u32
-        ensures { λ r. ⌜ r ≡ rank (lex compare (Labels.exclusions (viewSlot self)) (Labels.exclusions (viewSlot other))) ⌝ }
-    {
-        let m = self.size();
-        let n = other.size();
-        let xs = self.excluded;
-        let ys = other.excluded;
-        let mut i: usize = 0;
-        while i < m && i < n {
-            if xs[i] < ys[i] {
-                return BEFORE;
-            }
-            if ys[i] < xs[i] {
-                return AFTER;
-            }
-            i += 1;
-        }
-        if i < n {
-            return BEFORE;
-        }
-        if i < m {
-            return AFTER;
-        }
-        SAME
     }
 }
 

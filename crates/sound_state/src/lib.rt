@@ -85,7 +85,7 @@ fn before(p: u32, d: Disjunct, q: u32, e: Disjunct, n: usize) -> bool
     }
     let x = d.tidied(n);
     let y = e.tidied(n);
-    x.order(y) == BEFORE
+    ordering::order(x, y) == BEFORE
 }
 
 // Each of the held disjuncts by itself.

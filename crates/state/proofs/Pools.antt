@@ -20,8 +20,8 @@ use Rattle.disjunct.specs.Disjuncts.{viewDisjunct, disjunctOf}
 use Rattle.disjunct.proofs.Disjuncts.{view-disjunct}
 use Rattle.sets.specs.Sets.{disjunctsIn}
 use Rattle.sets.proofs.Sets.{in-length, wide-in}
-use Rattle.advance.specs.Held.{heldIn}
-use Rattle.step.proofs.Fills.{fill-more}
+use Rattle.sets.specs.Held.{heldIn}
+use Rattle.laws.proofs.Fills.{fill-more}
 use Rattle.state.specs.declared.State.{State}
 use Rattle.state.specs.States.{stateOf, heldFirst}
 

@@ -8,7 +8,7 @@ ghost use lib.ListN.{length, getD, set};
 ghost use Rattle.meaning.specs.Room.{heldLimit};
 ghost use Rattle.meaning.specs.Limits.{variableLimit};
 ghost use Rattle.bounded.specs.Wide.{wideHeld};
-ghost use Rattle.advance.specs.Held.{heldIn};
+ghost use Rattle.sets.specs.Held.{heldIn};
 ghost use Rattle.state.specs.States.{stateOf, heldFirst};
 
 // "all 128 disjunct places": a place for each disjunct of a set.

@@ -1,5 +1,4 @@
 -- Laws for the proofs of this crate: Meetings (what is met of a list of disjuncts, as a set), Sources (a step set that grows by one
--- source at a time), Fills (an array that a loop fills from the front).
+-- source at a time).
 pub mod Meetings
 pub mod Sources
-pub mod Fills

@@ -13,7 +13,7 @@ use Rattle.laws.proofs.Lists.{keep-length}
 use Rattle.laws.proofs.Sets.{length-insertAll, setOf-ascending}
 use Rattle.meaning.specs.Events.{Constraint, never}
 use Rattle.meaning.specs.Labels.{Disjunct, freeDisjunct, compareDisjuncts, meets, met}
-use Rattle.meaning.proofs.Orders.{disjunct-order}
+use Rattle.automaton.proofs.Orders.{disjunct-order}
 use Rattle.bounded.specs.Bounded.{withStart, metList, metSet}
 use Rattle.bounded.proofs.RowSets.{met-append, met-never, met-one, met-none}
 

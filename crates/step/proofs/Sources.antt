@@ -17,7 +17,7 @@ use Rattle.laws.proofs.Sets.{insertAll-ascending, length-insertAll}
 use Rattle.laws.proofs.Turns.{counted-few, counted-over, few-counted, over-counted}
 use Rattle.meaning.specs.Events.{Constraint}
 use Rattle.meaning.specs.Labels.{Disjunct, compareDisjuncts}
-use Rattle.meaning.proofs.Orders.{disjunct-order}
+use Rattle.automaton.proofs.Orders.{disjunct-order}
 use Rattle.bounded.specs.Bounded.{pick, metList}
 use Rattle.bounded.proofs.Picks.{pick-next}
 use Rattle.sets.specs.Sets.{disjunctsIn, grownIn}

@@ -63,7 +63,7 @@ fn add_met(out: &mut Words, m: usize, d: Disjunct, c: Constraint) -> usize
     ensures { λ r. ⌜ grownIn r (now (out .exit)) ≡ within heldLimit (insertAll compareDisjuncts
         (metList (viewConstraint c) (viewDisjunct d ∷ [])) (take m (disjunctsIn (now (out .entry))))) ⌝ }
 {
-    let x = d.meet(c);
+    let x = meeting::meet(d, c);
     if x.ok {
         let e = x.disjunct;
         return sets::insert(out, m, e);

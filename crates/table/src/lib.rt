@@ -1,16 +1,15 @@
 // The symbol table, by value, and the places of the declared names. For the readers of lines and patterns.
 ghost use mathlib.Core.Path.{_≡_};
 ghost use mathlib.Core.Bool.{true};
-ghost use mathlib.Core.List.{[], _∷_, map};
-ghost use Prim.Native.Nat.{_+_, _-_, _≤_, _<_};
-ghost use lib.ListN.{length, take, drop, set};
+ghost use mathlib.Core.List.{[], _∷_};
+ghost use Prim.Native.Nat.{_+_, _≤_, _<_};
+ghost use lib.ListN.{set};
 ghost use Rattle.laws.specs.Lists.{all};
 ghost use Rattle.meaning.specs.Meaning.{noSymbol};
 ghost use Rattle.meaning.specs.Book.{soundParameter, boundIn};
 ghost use Rattle.form.specs.Limits.{variableLimit, symbolLimit, parameterLimit};
-ghost use Rattle.form.specs.Scan.{part};
-ghost use Rattle.form.specs.Lines.{indexOf, noTable};
-ghost use Rattle.table.specs.Tables.{namesLimit, maskBits, symbolOf, tableOf, spanOf, viewParameter, viewSymbol, inside};
+ghost use Rattle.form.specs.Lines.{noTable};
+ghost use Rattle.table.specs.Tables.{maskBits, symbolOf, tableOf, viewParameter, viewSymbol};
 
 // "0 to 4 variable names", "1 to 16 lines `sym NAME KIND ARGS`", "ARGS are 0 to 4 words"
 pub const VARIABLES: usize = 4;
@@ -69,25 +68,6 @@ pub fn no_table() -> Table
         names: [n; NAMES],
         symbols: [y; SYMBOLS],
     }
-}
-
-// The number, counted from `from`, of the first name before `to` that is the word from p to e; to - from where none is.
-pub fn find(s: &[u8], names: [Name; NAMES], from: usize, to: usize, p: usize, e: usize) -> usize
-    requires { ⌜ (from ≤ to) × (to ≤ namesLimit)
-        × (p ≤ e) × (e ≤ length (now s)) × (all (inside (length (now s))) (map spanOf (take (to - from) (drop from names))) ≡ true) ⌝ }
-    ensures { λ r. ⌜ r ≡ indexOf (now (s .entry)) (map spanOf (take (to - from) (drop from names))) (part (now (s .entry)) p e) ⌝ }
-{
-    let mut i = from;
-    while i < to {
-        let n = names[i];
-        let a = n.start;
-        let z = n.start + n.size;
-        if text::same(s, a, z, s, p, e) {
-            return i - from;
-        }
-        i += 1;
-    }
-    to - from
 }
 
 pub fn with_variable(t: Table, n: Name) -> Table

@@ -14,7 +14,7 @@ use Rattle.meaning.specs.Sound.{soundHeld, eventLimit}
 use Rattle.table.specs.Tables.{viewSymbol}
 use Rattle.book.specs.declared.Book.{Book}
 use Rattle.book.specs.Books.{viewBook}
-use Rattle.advance.specs.Held.{Counts}
+use Rattle.book.specs.Counts.{Counts}
 use Rattle.state.specs.declared.State.{State}
 use Rattle.state.specs.States.{heldFirst}
 use Rattle.sound.specs.Soundness.{bookSound, stateSound}

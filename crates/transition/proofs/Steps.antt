@@ -23,7 +23,7 @@ use Rattle.meaning.specs.Labels.{free, Disjunct, Held, newHeld}
 use Rattle.meaning.specs.Room.{room}
 use Rattle.meaning.specs.Rows.{rows}
 use Rattle.meaning.specs.Sound.{soundPiece, soundHeld, eventLimit}
-use Rattle.meaning.proofs.Few.{few-rows}
+use Rattle.automaton.proofs.Few.{few-rows}
 use Rattle.bounded.specs.Wide.{wide, wideHeld, wideValuation, wideBook}
 use Rattle.bounded.specs.Bounded.{heldOf, rowLimit, freeRows}
 use Rattle.bounded.proofs.Picks.{held-positions}
@@ -35,7 +35,7 @@ use Rattle.sets.specs.Sets.{disjunctsIn}
 use Rattle.sets.proofs.Sets.{in-length, wide-in}
 use Rattle.book.specs.declared.Book.{Book}
 use Rattle.book.specs.Books.{viewBook}
-use Rattle.advance.specs.Held.{heldIn, heldGrown}
+use Rattle.sets.specs.Held.{heldIn, heldGrown}
 use Rattle.advance.proofs.Held.{grown-held, full-held}
 use Rattle.state.specs.declared.State.{State}
 use Rattle.state.specs.States.{stateOf, heldFirst, viewState}

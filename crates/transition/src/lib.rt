@@ -17,7 +17,7 @@ ghost use Rattle.bounded.specs.Wide.{wideHeld};
 ghost use Rattle.record.specs.Records.{eventIn, viewEvent};
 ghost use Rattle.constraint.specs.Constraints.{viewConstraint, noConstraint, Ready};
 ghost use Rattle.book.specs.Books.{viewBook};
-ghost use Rattle.advance.specs.Held.{heldIn};
+ghost use Rattle.sets.specs.Held.{heldIn};
 ghost use Rattle.state.specs.States.{heldFirst};
 ghost use Rattle.sound.specs.Soundness.{bookSound, stateSound};
 ghost use Rattle.calls.specs.Answers.{numberOf, firstOf};

@@ -1,5 +1,5 @@
 -- What the event call hands back and leaves in the buffer, by the three ways in which it ends: refused before the rows are placed,
--- refused for want of space, accepted. For `event` and `fits`.
+-- refused for want of space, accepted. For `event`.
 use mathlib.Core.Path.{_≡_, refl, sym, ap, ap₂, _∙_}
 use mathlib.Core.Bool.{Bool, true, false, cond}
 use mathlib.Core.List.{List, List·Memᴰ}
@@ -27,7 +27,7 @@ use Rattle.writer.proofs.RowBytes.{row-wide}
 use Rattle.tally.specs.declared.Tally.{Tally}
 use Rattle.tally.specs.Tallies.{tallied}
 use Rattle.calls.specs.Answers.{numberOf}
-use Rattle.watch.specs.Inner.{answerOf}
+use Rattle.answers.specs.Inner.{answerOf}
 use Rattle.calls.specs.Calls.{isAccepted, rowsBy, stateBy, unsound, outOfForm, tooMany, noRoom, noSpace, answerTo, taken, bufferAfter}
 use Rattle.transition.specs.Moves.{Moved}
 use Rattle.calls.specs.declared.EventAnswer.{EventAnswer}
@@ -84,23 +84,23 @@ module _ (b : Book) (s : State) (r buffer : Bytes) (place : ℕ) where
   unfolding answerTo
   answer-passed h = four-passed (unsound b s r) (outOfForm b s r) (tooMany b s r) (noRoom b s r) last h
 
-  -- what `refused` hands back
-  abbrev refusal : Tally → ℕ → Taken
-  refusal t n = record { answer = answerOf n; rows = 0; book = b; state = s; tally = tallied t 0 1 0 }
+  -- what `outcome::refused` hands back
+  abbrev refusal : Tally → EventAnswer → Taken
+  refusal t a = record { answer = a; rows = 0; book = b; state = s; tally = tallied t 0 1 0 }
 
-  -- a refusal, whatever its number
-  ends-not : (t : Tally) (n : ℕ) → answerTo b s r buffer place ≡ answerOf n → isAccepted (answerTo b s r buffer place) ≡ false
-      → {x : Taken} → x ≡ refusal t n
+  -- a refusal, whatever its answer
+  ends-not : (t : Tally) {a : EventAnswer} → answerTo b s r buffer place ≡ a → isAccepted (answerTo b s r buffer place) ≡ false
+      → {x : Taken} → x ≡ refusal t a
       → (x ≡ taken b s r buffer place t) × (buffer ≡ bufferAfter b s r buffer place)
   unfolding taken bufferAfter
-  ends-not t n h k e = (e ∙ rw (k, h), rw k)
+  ends-not t h k e = (e ∙ rw (k, h), rw k)
 
   -- refused by one of the checks before the buffer's
-  pub ends-refused : (t : Tally) (n : ℕ) → n ≡ stepNumber b s r → (n ≡ 0 → ⊥) → {x : Taken} → x ≡ refusal t n
+  pub ends-refused : (t : Tally) (n : ℕ) → n ≡ stepNumber b s r → (n ≡ 0 → ⊥) → {a : EventAnswer} → a ≡ answerOf n → {x : Taken} → x ≡ refusal t a
       → (x ≡ taken b s r buffer place t) × (buffer ≡ bufferAfter b s r buffer place)
-  ends-refused t n e h =
+  ends-refused t n e h f =
       let a = answer-refused (λ z. h (e ∙ z)) in
-      ends-not t n (a .0 ∙ ap answerOf (sym e)) (a .1)
+      ends-not t (a .0 ∙ ap answerOf (sym e) ∙ sym f) (a .1)
 
   -- the state after an accepted event and the words that hold its rows
   module _ (passed : stepNumber b s r ≡ 0) (next : State) (n : ℕ) (words : List ℕ) (moved : Moved b s (eventIn r) next n words) where
@@ -109,13 +109,13 @@ module _ (b : Book) (s : State) (r buffer : Bytes) (place : ℕ) where
     told e = answer-passed passed ∙ ap (λ x. cond x NoSpace Accepted) e
 
     -- refused by the buffer's check
-    pub ends-short : (t : Tally) → leb (place + rowSize * n) (length buffer) ≡ false → {x : Taken} → x ≡ refusal t 13
+    pub ends-short : (t : Tally) → leb (place + rowSize * n) (length buffer) ≡ false → {x : Taken} → x ≡ refusal t NoSpace
         → (x ≡ taken b s r buffer place t) × (buffer ≡ bufferAfter b s r buffer place)
-    unfolding noSpace answerOf
+    unfolding noSpace
     ends-short t h =
         let k = leb-false (place + rowSize * n) (length buffer) h in
         let a = told (lt-ltb (length buffer) (place + rowSize * length its-rows) (rw (← moved .counted) k)) in
-        ends-not t 13 a (ap isAccepted a)
+        ends-not t a (ap isAccepted a)
 
     accepted : leb (place + rowSize * n) (length buffer) ≡ true → answerTo b s r buffer place ≡ Accepted
     unfolding noSpace
@@ -143,20 +143,11 @@ module _ (b : Book) (s : State) (r buffer : Bytes) (place : ℕ) where
         ∙ gather-agree (λ σ. f (wideValuation σ)) f its-rows (λ σ m. row-wide (suc (s .number)) (b .variables) σ (row-few σ m))
 
     -- accepted
-    pub ends-accepted : (t : Tally) → leb (place + rowSize * n) (length buffer) ≡ true → {u : Tally} → u ≡ tallied t 1 0 n
+    pub ends-accepted : (t : Tally) → leb (place + rowSize * n) (length buffer) ≡ true
+        → {x : Taken} → x ≡ record { answer = Accepted; rows = n; book = b; state = next; tally = tallied t 1 0 n }
         → {out : Bytes} → out ≡ splice place (gather (rowBytes (next .number) (b .variables)) (take n (valuationsIn words))) buffer
-        → (record { answer = Accepted; rows = n; book = b; state = next; tally = u } ≡ taken b s r buffer place t)
-        × (out ≡ bufferAfter b s r buffer place)
+        → (x ≡ taken b s r buffer place t) × (out ≡ bufferAfter b s r buffer place)
     unfolding taken bufferAfter
     ends-accepted t h e f =
         let a = accepted h in
-        (rw (e, a, ← moved .counted, ← moved .after), f ∙ rw (a, rows-written))
-
--- whether the rows fit, as the code tests it
-pub fits-behind : (size place rows : ℕ) → place ≤ size → leb rows ((size - place) / rowSize) ≡ leb (place + rowSize * rows) size
-fits-behind size place rows h =
-    same-test _ _ (λ e. le-leb (place + rowSize * rows) size (omega (arith, leb-true rows ((size - place) / rowSize) e)))
-    (λ e. le-leb rows ((size - place) / rowSize) (omega (arith, leb-true (place + rowSize * rows) size e)))
-
-pub fits-not : (size place rows : ℕ) → size < place → false ≡ leb (place + rowSize * rows) size
-fits-not size place rows h = sym (lt-leb (place + rowSize * rows) size (omega arith))
+        (e ∙ rw (a, ← moved .counted, ← moved .after), f ∙ rw (a, rows-written))

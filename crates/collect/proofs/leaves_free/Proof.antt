@@ -8,7 +8,7 @@ use Rattle.meaning.specs.Events.{Event}
 use Rattle.bounded.specs.Wide.{wideBook}
 use Rattle.bounded.specs.Bounded.{freeRows}
 use Rattle.book.specs.Books.{viewBook}
-use Rattle.advance.specs.Held.{heldIn}
+use Rattle.sets.specs.Held.{heldIn}
 use Rattle.collect.proofs.Symbols.{symbolAt, Agree, freeAhead, free-first, Known, few-variables, symbol-below, free-turn, free-last}
 use Rattle.collect.proofs.leaves_free.Statement.{statement}
 use Rattle.collect.proofs.leaves_free.Tie as tie

@@ -8,7 +8,7 @@ use borrow.Author.Needs.{needs}
 use lib.ListN.{getD}
 use Rattle.laws.proofs.Turns.{Passed, Compared, passed-none, passed-more, passed-found, passed-behind, passed-all}
 use Rattle.meaning.specs.Rows.{compareValuations}
-use Rattle.meaning.proofs.Orders.{valuation-order}
+use Rattle.automaton.proofs.Orders.{valuation-order}
 use Rattle.slot.specs.Slots.{rank}
 use Rattle.slot.proofs.Slots.{rank-before, rank-equal}
 use Rattle.rows.specs.Valuations.{valuationsIn}

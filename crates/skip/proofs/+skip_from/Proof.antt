@@ -24,7 +24,7 @@ use Rattle.skip.proofs.Growth.{step-ascending, step-full}
 use Rattle.skip.proofs.skip_from.Reads as skip-from
 use Rattle.skip.proofs.skip_from.Kinds as kinds
 use Rattle.skip.proofs.+skip_from.Lts-skip_from as lts
-use Rattle.disjunct.proofs.Disjunct.exclude.Reads as exclude
+use Rattle.meeting.proofs.exclude.Reads as exclude
 use Rattle.disjunct.proofs.Disjunct.is_free.Reads as is-free
 use Rattle.sets.proofs.insert.Reads as insertion
 use Rattle.skip.proofs.+skip_from.{statement}

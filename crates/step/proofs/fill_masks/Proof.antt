@@ -7,7 +7,7 @@ use lib.Dec.{leb}
 use lib.ListN.{length, take, getD, length-set}
 use borrow.Author.Tests.{leb-true}
 use Rattle.laws.proofs.Lists.{and-true-split, all-taken}
-use Rattle.step.proofs.Fills.{fill-more}
+use Rattle.laws.proofs.Fills.{fill-more}
 use borrow.Author.Needs.{needs}
 use Rattle.step.proofs.fill_masks.Statement.{statement}
 use Rattle.step.proofs.fill_masks.Tie as tie

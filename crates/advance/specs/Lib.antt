@@ -1,2 +1,0 @@
--- What is held, in lent words.
-pub mod Held

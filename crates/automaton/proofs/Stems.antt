@@ -1,0 +1,70 @@
+-- Where the disjuncts of a new state stem from: members of labels, of sources, of skip sets, and of all new labels.
+use mathlib.Core.Path.{_≡_, refl}
+use mathlib.Core.Bool.{Bool, true, false, cond}
+use mathlib.Core.List.{List, [], _∷_, map, List·Memᴰ}
+use mathlib.Core.List.{List·Memᴰ·not-nil, List·Memᴰ·eq-of-singleton, List·Memᴰ·append-cases}
+use mathlib.Core.Logic.{_⊎_, inl, inr, ⊎-map, ⊎-swap}
+use Prim.Native.Nat.{ℕ}
+use lib.Dec.{eqb}
+use borrow.Author.Tests.{eqb-true}
+use Rattle.laws.specs.Lists.{keep}
+use Rattle.laws.proofs.Lists.{mem-picked}
+use Rattle.meaning.specs.Events.{Symbol, Event, Demand, Constraint, never, demands, constraintOf}
+use Rattle.meaning.specs.Book.{Book, positions, beginsAt, followsAt}
+use Rattle.meaning.specs.Labels.{Disjunct, freeDisjunct, entryOf, isFree, meetsAll, exclude, skipOne, skipBy, skipThrough}
+use Rattle.meaning.specs.Labels.{Held, labelOf, sources, stepSet, skipSet, newHeld}
+use Rattle.automaton.proofs.Members.{skipBy-member, newLabel-member, newHeld-member}
+
+pub label-held : (held : List Held) (p : ℕ) {D : Disjunct} → List·Memᴰ D (labelOf held p)
+    → (h : Held) × List·Memᴰ h held × (h .position ≡ p) × (D ≡ h .disjunct)
+label-held held p {D} m =
+    let r = mem-picked (λ h. eqb (h .position) p) (λ h. h .disjunct) D held .0 m in
+    (r .0, r .1, eqb-true _ _ (r .2), r .3)
+
+-- the demands of a constraint
+abbrev pub asked : Constraint → List Demand
+asked never = []
+asked (demands ds) = ds
+
+pub skip-cases : (c : Constraint) (D : Disjunct) {E : Disjunct} → List·Memᴰ E (skipOne c D)
+    → (E ≡ D) ⊎ ((d : Demand) × List·Memᴰ d (asked c) × (E ≡ exclude D d))
+skip-cases never D m = inl (List·Memᴰ·eq-of-singleton m)
+skip-cases (demands ds) D {E} m = go (meetsAll D ds) m
+  where
+    isOpen : Demand → Bool
+    isOpen d = isFree (entryOf D (d .variable))
+
+    go : (t : Bool) → List·Memᴰ E (cond t (map (exclude D) (keep isOpen ds)) (D ∷ [])) → (E ≡ D) ⊎ ((d : Demand) × List·Memᴰ d ds × (E ≡ exclude D d))
+    go true n = let r = mem-picked isOpen (exclude D) E ds .0 n in inr (r .0, r .1, r .3)
+    go false n = inl (List·Memᴰ·eq-of-singleton n)
+
+-- what holds of all disjuncts of a set and is kept past each symbol holds of all that come through
+module _ (e : Event) (P : Disjunct → Type 0)
+    (past : (s : Symbol) (D : Disjunct) → P D → (E : Disjunct) → List·Memᴰ E (skipOne (constraintOf s e) D) → P E) where
+  through-kept : (ss : List Symbol) (l : List Disjunct) → ((D : Disjunct) → List·Memᴰ D l → P D)
+      → (D : Disjunct) → List·Memᴰ D (skipThrough (map (λ s. constraintOf s e) ss) l) → P D
+  through-kept [] l here D m = here D m
+  through-kept (s ∷ ss) l here D m = let c = constraintOf s e in
+      through-kept ss (skipBy c l) (λ E k. let r = skipBy-member c l E .0 k in past s (r .0) (here (r .0) (r .1)) E (r .2)) D m
+
+  pub skip-kept : (b : Book) (held : List Held) (p : ℕ) → ((D : Disjunct) → List·Memᴰ D (labelOf held p) → P D)
+      → (D : Disjunct) → List·Memᴰ D (skipSet b held e p) → P D
+  unfolding skipSet
+  skip-kept b held p = through-kept (b .symbols) (labelOf held p)
+
+module _ (b : Book) (held : List Held) where
+  pub source-cases : (q : ℕ) {D : Disjunct} → List·Memᴰ D (sources b held q) → ((beginsAt b q ≡ true) × (D ≡ freeDisjunct (b .variables)))
+      ⊎ ((h : Held) × List·Memᴰ h held × (followsAt b (h .position) q ≡ true) × (D ≡ h .disjunct))
+  unfolding sources
+  source-cases q {D} m =
+      ⊎-map (go (beginsAt b q) refl) (mem-picked (λ h. followsAt b (h .position) q) (λ h. h .disjunct) D held .0)
+      (List·Memᴰ·append-cases (cond (beginsAt b q) (freeDisjunct (b .variables) ∷ []) []) m)
+    where
+      go : (t : Bool) → beginsAt b q ≡ t → List·Memᴰ D (cond t (freeDisjunct (b .variables) ∷ []) [])
+          → (beginsAt b q ≡ true) × (D ≡ freeDisjunct (b .variables))
+      go true e k = (e, List·Memᴰ·eq-of-singleton k)
+      go false e k = absurd (List·Memᴰ·not-nil k)
+
+  pub new-cases : (e : Event) (h : Held) → List·Memᴰ h (newHeld b held e) → List·Memᴰ (h .position) (positions b)
+      × (List·Memᴰ (h .disjunct) (skipSet b held e (h .position)) ⊎ List·Memᴰ (h .disjunct) (stepSet b held e (h .position)))
+  new-cases e h m = let r = newHeld-member b held e h m in (r .0, ⊎-swap (newLabel-member b held e (h .position) (h .disjunct) .0 (r .1) .1))

@@ -1,0 +1,2 @@
+-- What a meeting needs: one demand met after another (Meeting).
+pub mod Meeting
