@@ -1,2 +1,2 @@
--- For the proof of `fits`: the test for space (Fits).
-pub mod Fits
+-- For the proof of `fits`: the test for space (Space).
+pub mod Space

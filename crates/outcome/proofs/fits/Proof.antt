@@ -1,5 +1,5 @@
 -- `outcome::fits` meets its contract: behind a place within the buffer the rows are counted by the room that is left.
-use Rattle.outcome.proofs.Fits.{fits-behind, fits-not}
+use Rattle.outcome.proofs.Space.{fits-behind, fits-not}
 use Rattle.outcome.proofs.fits.Statement.{statement}
 use Rattle.outcome.proofs.fits.Tie as tie
 

@@ -20,13 +20,18 @@ beside (a, b) c = (a, b, c)
 step-requires : tie.Need-step-requires
 step-requires c κs = search needs
 
+answer-of-requires : tie.Need-answer-of-requires
+answer-of-requires c κs = search needs
+
 refused-requires : tie.Need-refused-requires
 refused-requires c κs = search needs
 
 returns : tie.Need-returns
 returns c =
-    let step = c .before .before .before in
-    beside (ends-refused _ _ _ _ _ _ _ (step .step .ensures .0) (c .before .if1 .taken) (c .refused .ensures)) (lent (step .before .before .before))
+    let step = c .before .before .before .before in
+    beside
+    (ends-refused _ _ _ _ _ _ _ (step .step .ensures .0) (c .before .before .if1 .taken) (c .before .answer-of .ensures) (c .refused .ensures))
+    (lent (step .before .before .before))
 
 fits-requires : tie.Need-fits-requires
 fits-requires c κs = search needs
@@ -40,8 +45,8 @@ write-rows-requires c κs =
       leb-true _ _ (sym (c .before .before .before .before .fits2 .ensures) ∙ c .before .before .before .if2 .taken),
     )
 
-added-requires : tie.Need-added-requires
-added-requires c κs = search needs
+accepted-requires : tie.Need-accepted-requires
+accepted-requires c κs = search needs
 
 same-length : tie.Need-same-length
 same-length c = search needs
@@ -54,7 +59,7 @@ returns-2 c =
     let step = stepped .step .ensures in
     let zero = fits .before .before .if1 .left in
     beside
-    (ends-accepted _ _ _ _ _ (sym (step .0) ∙ zero) _ _ _ (step .1 zero) _ (sym (fits .before .fits2 .ensures) ∙ fits .if2 .taken) (c .added .ensures)
+    (ends-accepted _ _ _ _ _ (sym (step .0) ∙ zero) _ _ _ (step .1 zero) _ (sym (fits .before .fits2 .ensures) ∙ fits .if2 .taken) (c .accepted .ensures)
     (written .write-rows .ensures))
     (lent (stepped .before .before .before))
 
@@ -76,11 +81,12 @@ event-spec =
     tie.close
     (tie.spec
     step-requires
+    answer-of-requires
     refused-requires
     returns
     fits-requires
     write-rows-requires
-    added-requires
+    accepted-requires
     same-length
     returns-2
     refused-requires-2
