@@ -4,12 +4,20 @@ use calls::EventAnswer;
 use calls::Taken;
 use state::State;
 use tally::Tally;
+use rows::Words;
 ghost use mathlib.Core.Path.{_≡_};
-ghost use Prim.Native.Nat.{_+_, _*_};
+ghost use mathlib.Core.Bool.{cond};
+ghost use Prim.Native.Nat.{_+_, _*_, _≤_};
 ghost use lib.Dec.{leb};
-ghost use Rattle.writer.specs.RowBytes.{rowSize};
+ghost use lib.ListN.{length, take};
+ghost use Rattle.laws.specs.Lists.{gather};
+ghost use Rattle.laws.specs.Parts.{splice};
+ghost use Rattle.meaning.specs.Limits.{variableLimit};
+ghost use Rattle.bounded.specs.Bounded.{rowLimit};
+ghost use Rattle.rows.specs.Valuations.{valuationsIn};
+ghost use Rattle.writer.specs.RowBytes.{rowSize, rowBytes};
 ghost use Rattle.tally.specs.Tallies.{tallied};
-ghost use Rattle.calls.specs.declared.EventAnswer.the-variants.{Accepted};
+ghost use Rattle.calls.specs.declared.EventAnswer.the-variants.{Accepted, NoSpace};
 
 // Refused: all as it came but the refused counter.
 pub fn refused(answer: EventAnswer, book: Book, state: State, tally: Tally) -> Taken
@@ -47,4 +55,30 @@ pub fn fits(size: usize, place: usize, rows: usize) -> bool
         return rows <= (size - place) / writer::ROW;
     }
     false
+}
+
+// Where nothing but the check for space is left: the rows, in words, are written and the next state handed back, or all is as it came.
+pub fn settled(
+    book: Book,
+    state: State,
+    next: State,
+    words: &Words,
+    n: usize,
+    rows: &mut [u8],
+    place: usize,
+    tally: Tally,
+) -> Taken
+    requires { ⌜ (book .variables ≤ variableLimit) × (n ≤ rowLimit) ⌝ }
+    ensures { λ r. ⌜ (r ≡ cond (leb (place + rowSize * n) (length (now (rows .entry))))
+            (record { answer = Accepted; rows = n; book = book; state = next; tally = tallied tally 1 0 n })
+            (record { answer = NoSpace; rows = 0; book = book; state = state; tally = tallied tally 0 1 0 }))
+        × (now (rows .exit) ≡ cond (leb (place + rowSize * n) (length (now (rows .entry))))
+            (splice place (gather (rowBytes (next .number) (book .variables)) (take n (valuationsIn (now (words .entry))))) (now (rows .entry)))
+            (now (rows .entry))) ⌝ }
+{
+    if fits(rows.len(), place, n) {
+        writer::write_rows(rows, place, words, n, next.number, book.variables);
+        return accepted(n, book, next, tally);
+    }
+    refused(EventAnswer::NoSpace, book, state, tally)
 }

@@ -3,14 +3,14 @@
 use mathlib.Core.Path.{_≡_, refl, sym, ap, ap₂, _∙_}
 use mathlib.Core.Bool.{Bool, true, false, cond}
 use mathlib.Core.List.{List, List·Memᴰ}
-use Prim.Native.Nat.{ℕ, suc, _+_, _-_, _*_, _/_, _≤_, _<_}
+use Prim.Native.Nat.{ℕ, suc, _+_, _*_, _≤_}
 use native.Mathlib.Omega.{arith}
-use borrow.Author.Tests.{leb-true, leb-false, le-leb, lt-leb, lt-ltb, le-ltb}
+use borrow.Author.Tests.{leb-true, leb-false, lt-ltb, le-ltb}
 use lib.Dec.{leb}
 use lib.ListN.{length, take}
 use Rattle.laws.specs.Lists.{gather}
 use Rattle.laws.specs.Parts.{splice}
-use Rattle.laws.proofs.Lists.{same-test, mem-map}
+use Rattle.laws.proofs.Lists.{mem-map}
 use Rattle.laws.proofs.Maps.{gather-agree, gather-map}
 use Rattle.meaning.specs.Events.{Valuation}
 use Rattle.bounded.specs.Wide.{wideValuation}
@@ -109,7 +109,7 @@ module _ (b : Book) (s : State) (r buffer : Bytes) (place : ℕ) where
     told e = answer-passed passed ∙ ap (λ x. cond x NoSpace Accepted) e
 
     -- refused by the buffer's check
-    pub ends-short : (t : Tally) → leb (place + rowSize * n) (length buffer) ≡ false → {x : Taken} → x ≡ refusal t NoSpace
+    ends-short : (t : Tally) → leb (place + rowSize * n) (length buffer) ≡ false → {x : Taken} → x ≡ refusal t NoSpace
         → (x ≡ taken b s r buffer place t) × (buffer ≡ bufferAfter b s r buffer place)
     unfolding noSpace
     ends-short t h =
@@ -143,7 +143,7 @@ module _ (b : Book) (s : State) (r buffer : Bytes) (place : ℕ) where
         ∙ gather-agree (λ σ. f (wideValuation σ)) f its-rows (λ σ m. row-wide (suc (s .number)) (b .variables) σ (row-few σ m))
 
     -- accepted
-    pub ends-accepted : (t : Tally) → leb (place + rowSize * n) (length buffer) ≡ true
+    ends-accepted : (t : Tally) → leb (place + rowSize * n) (length buffer) ≡ true
         → {x : Taken} → x ≡ record { answer = Accepted; rows = n; book = b; state = next; tally = tallied t 1 0 n }
         → {out : Bytes} → out ≡ splice place (gather (rowBytes (next .number) (b .variables)) (take n (valuationsIn words))) buffer
         → (x ≡ taken b s r buffer place t) × (out ≡ bufferAfter b s r buffer place)
@@ -151,3 +151,17 @@ module _ (b : Book) (s : State) (r buffer : Bytes) (place : ℕ) where
     ends-accepted t h e f =
         let a = accepted h in
         (e ∙ rw (a, ← moved .counted, ← moved .after), f ∙ rw (a, rows-written))
+
+    -- what `outcome::settled` hands back, by its test for space
+    pub ends-settled : (t : Tally) {x : Taken} {out : Bytes} → let fits = leb (place + rowSize * n) (length buffer) in
+        x ≡ cond fits (record { answer = Accepted; rows = n; book = b; state = next; tally = tallied t 1 0 n }) (refusal t NoSpace)
+        → out ≡ cond fits (splice place (gather (rowBytes (next .number) (b .variables)) (take n (valuationsIn words))) buffer) buffer
+        → (x ≡ taken b s r buffer place t) × (out ≡ bufferAfter b s r buffer place)
+    ends-settled t {x} {out} = go (leb (place + rowSize * n) (length buffer)) refl
+      where
+        go : (fits : Bool) → leb (place + rowSize * n) (length buffer) ≡ fits
+            → x ≡ cond fits (record { answer = Accepted; rows = n; book = b; state = next; tally = tallied t 1 0 n }) (refusal t NoSpace)
+            → out ≡ cond fits (splice place (gather (rowBytes (next .number) (b .variables)) (take n (valuationsIn words))) buffer) buffer
+            → (x ≡ taken b s r buffer place t) × (out ≡ bufferAfter b s r buffer place)
+        go true h e f = ends-accepted t h e f
+        go false h e f = let k = ends-short t h e in (k .0, f ∙ k .1)

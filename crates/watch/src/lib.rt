@@ -36,15 +36,10 @@ pub fn event(
 {
     let mut words = [0u32; rows::WORDS];
     let s = transition::step(book, state, bytes, &mut words);
-    let n = s.rows;
     if s.number != 0 {
         let answer = answers::answer_of(s.number);
         return outcome::refused(answer, book, state, tally);
     }
-    if outcome::fits(rows.len(), place, n) {
-        let next = s.state;
-        writer::write_rows(rows, place, &words, n, next.number, book.variables);
-        return outcome::accepted(n, book, next, tally);
-    }
-    outcome::refused(EventAnswer::NoSpace, book, state, tally)
+    let next = s.state;
+    outcome::settled(book, state, next, &words, s.rows, rows, place, tally)
 }
