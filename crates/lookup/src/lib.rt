@@ -1,6 +1,6 @@
 // A word looked up among the declared names, by their places in the text. For the readers of lines and patterns.
-use table::Name;
 use table::NAMES;
+use table::Name;
 ghost use mathlib.Core.Path.{_≡_};
 ghost use mathlib.Core.Bool.{true};
 ghost use mathlib.Core.List.{map};

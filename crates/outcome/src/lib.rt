@@ -2,9 +2,9 @@
 use book::Book;
 use calls::EventAnswer;
 use calls::Taken;
+use rows::Words;
 use state::State;
 use tally::Tally;
-use rows::Words;
 ghost use mathlib.Core.Path.{_≡_};
 ghost use mathlib.Core.Bool.{cond};
 ghost use Prim.Native.Nat.{_+_, _*_, _≤_};
@@ -70,11 +70,11 @@ pub fn settled(
 ) -> Taken
     requires { ⌜ (book .variables ≤ variableLimit) × (n ≤ rowLimit) ⌝ }
     ensures { λ r. ⌜ (r ≡ cond (leb (place + rowSize * n) (length (now (rows .entry))))
-            (record { answer = Accepted; rows = n; book = book; state = next; tally = tallied tally 1 0 n })
-            (record { answer = NoSpace; rows = 0; book = book; state = state; tally = tallied tally 0 1 0 }))
+        (record { answer = Accepted; rows = n; book = book; state = next; tally = tallied tally 1 0 n })
+        (record { answer = NoSpace; rows = 0; book = book; state = state; tally = tallied tally 0 1 0 }))
         × (now (rows .exit) ≡ cond (leb (place + rowSize * n) (length (now (rows .entry))))
-            (splice place (gather (rowBytes (next .number) (book .variables)) (take n (valuationsIn (now (words .entry))))) (now (rows .entry)))
-            (now (rows .entry))) ⌝ }
+        (splice place (gather (rowBytes (next .number) (book .variables)) (take n (valuationsIn (now (words .entry))))) (now (rows .entry)))
+        (now (rows .entry))) ⌝ }
 {
     if fits(rows.len(), place, n) {
         writer::write_rows(rows, place, words, n, next.number, book.variables);

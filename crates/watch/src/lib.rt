@@ -1,7 +1,7 @@
 // The watch: the public calls. A book is read, a state is started afresh, and every event is taken as it comes.
-use book::Book;
 pub use answers::number_of;
 pub use answers::place_of;
+use book::Book;
 pub use calls::EventAnswer;
 pub use calls::Taken;
 pub use reader::name;

@@ -2,8 +2,8 @@
 use mathlib.Core.Path.{refl}
 use native.Mathlib.Omega.{arith}
 use Rattle.constraint.specs.Constraints.{demandsIn}
-use Rattle.parts.proofs.demanding.Statement.{statement}
-use Rattle.parts.proofs.demanding.Tie as tie
+use Rattle.cases.proofs.parts.demanding.Statement.{statement}
+use Rattle.cases.proofs.parts.demanding.Tie as tie
 
 returns : tie.Need-returns
 unfolding demandsIn

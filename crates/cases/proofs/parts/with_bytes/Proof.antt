@@ -1,8 +1,8 @@
 -- The bytes that are left to look at fall.
 use Prim.Native.Nat.{_≤_, _-_}
 use borrow.Author.Needs.{needs}
-use Rattle.parts.proofs.with_bytes.Statement.{statement}
-use Rattle.parts.proofs.with_bytes.Tie as tie
+use Rattle.cases.proofs.parts.with_bytes.Statement.{statement}
+use Rattle.cases.proofs.parts.with_bytes.Tie as tie
 
 abbrev Inv-loop : tie.InvT-loop
 Inv-loop got want t₀ i₀ t i = i ≤ 40

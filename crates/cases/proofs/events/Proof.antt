@@ -1,20 +1,14 @@
--- `counting::events` is safe and ends: the turns are counted.
+-- `cases::events` is safe and ends: the turns are counted.
 use Prim.Native.Nat.{_-_, _≤_}
 use borrow.Author.Needs.{needs}
-use Rattle.counting.proofs.events.Statement.{statement}
-use Rattle.counting.proofs.events.Tie as tie
+use Rattle.cases.proofs.events.Statement.{statement}
+use Rattle.cases.proofs.events.Tie as tie
 
 abbrev Inv-loop : tie.InvT-loop
-Inv-loop book state₀ tally₀ i₀ t9 t10 state tally i = i ≤ 9
+Inv-loop book state₀ tally₀ i₀ behind after state tally i = i ≤ 9
 
 abbrev μ-loop : tie.MeasureT-loop
-μ-loop book state₀ tally₀ i₀ t9 t10 state tally i = 9 - i
-
-slice-aggregate-read : tie.Need-slice-aggregate-read Inv-loop μ-loop
-slice-aggregate-read c = search needs
-
-read-requires : tie.Need-read-requires Inv-loop μ-loop
-read-requires c κs = search needs
+μ-loop book state₀ tally₀ i₀ behind after state tally i = 9 - i
 
 fresh-requires : tie.Need-fresh-requires Inv-loop μ-loop
 fresh-requires c κs = search needs
@@ -64,8 +58,6 @@ events-spec =
     (tie.spec
     Inv-loop
     μ-loop
-    slice-aggregate-read
-    read-requires
     fresh-requires
     none-requires
     loop-holds

@@ -1,12 +1,12 @@
 -- The rows that are left to look at fall.
 use Prim.Native.Nat.{_≤_, _-_}
 use borrow.Author.Needs.{needs}
-use Rattle.capacity.proofs.right_rows.Statement.{statement}
-use Rattle.capacity.proofs.right_rows.Tie as tie
-use Rattle.capacity.proofs.right_rows.Reads as reads
-use Rattle.capacity.proofs.right_rows.Lts as lts
-use Rattle.capacity.proofs.is_row.Reads as is-row-reads
-use Rattle.capacity.proofs.up.Reads as up-reads
+use Rattle.cases.proofs.full.right_rows.Statement.{statement}
+use Rattle.cases.proofs.full.right_rows.Tie as tie
+use Rattle.cases.proofs.full.right_rows.Reads as reads
+use Rattle.cases.proofs.full.right_rows.Lts as lts
+use Rattle.cases.proofs.full.is_row.Reads as is-row-reads
+use Rattle.cases.proofs.full.up.Reads as up-reads
 
 abbrev Inv-loop : tie.InvT-loop
 Inv-loop rows n number right₀ i₀ right i = 0 ≤ i
@@ -14,31 +14,24 @@ Inv-loop rows n number right₀ i₀ right i = 0 ≤ i
 abbrev μ-loop : tie.MeasureT-loop
 μ-loop rows n number right₀ i₀ right i = n - i
 
--- src/main.rt:44:5
 loop-holds : tie.Need-loop-holds Inv-loop μ-loop
 loop-holds c = search needs
 
--- src/main.rt:45:27
 is-row-requires : tie.Need-is-row-requires Inv-loop μ-loop
 is-row-requires c κs = search needs
 
--- src/main.rt:45:9
 up-requires : tie.Need-up-requires Inv-loop μ-loop
 up-requires c κs = search needs
 
--- src/main.rt:46:9
 add-i : tie.Need-add-i Inv-loop μ-loop
 add-i c = search needs
 
--- src/main.rt:44:5
 loop-less : tie.Need-loop-less Inv-loop μ-loop
 loop-less c = search needs
 
--- src/main.rt:44:5
 loop-again : tie.Need-loop-again Inv-loop μ-loop
 loop-again c = search needs
 
--- src/main.rt:41:1
 returns : tie.Need-returns Inv-loop μ-loop
 returns c = search needs
 

@@ -1,5 +1,10 @@
-// The calls that change a lent tally, `counted::event` and `tally::count`, run: document 01's six events of B1 with refused ones between,
-// whose answers, rows and counters are printed, and counters that stop at the largest 64-bit value.
+// Fixed cases, run: the parts of the matcher alone (parts), the full pool (full), and here the calls that change a lent tally,
+// `counted::event` and `tally::count`: document 01's six events of B1 with refused ones between, whose answers, rows and counters are
+// printed, and counters that stop at the largest 64-bit value.
+mod full;
+mod parts;
+mod score;
+
 use book::Book;
 use calls::Taken;
 use counted::Given;
@@ -102,28 +107,12 @@ fn byte(i: usize, k: usize) -> u8 {
 }
 
 fn record(i: usize) -> [u8; 20] {
-    [
-        byte(i, 0),
-        byte(i, 1),
-        0,
-        0,
-        byte(i, 2),
-        0,
-        0,
-        0,
-        byte(i, 3),
-        0,
-        0,
-        0,
-        0,
-        0,
-        0,
-        0,
-        0,
-        0,
-        0,
-        0,
-    ]
+    let mut r = [0u8; 20];
+    r[0] = byte(i, 0);
+    r[1] = byte(i, 1);
+    r[4] = byte(i, 2);
+    r[8] = byte(i, 3);
+    r
 }
 
 // The place is beyond the buffer at the fourth event.
@@ -150,15 +139,11 @@ fn counters(t: Tally) {
 }
 
 // A line for each event: answer, rows, and the tally.
-fn events() {
-    let r = reader::read(
-        b"vars d s\nsym load 1 d s\nsym drop 2 d\nsym clean 3 d\nmatch load drop+\n",
-    );
-    let book = r.book;
+fn events(book: Book) {
     let mut state = watch::fresh();
     let mut tally = Tally::none();
     let mut i: usize = 0;
-    while i < 9 {
+    while i < EVENTS {
         let r = taken_at(i, book, state, tally);
         let a = r.answer;
         number(watch::number_of(a) as u64, b" ");
@@ -171,8 +156,7 @@ fn events() {
 }
 
 // Counters that come to the largest value, and stay there.
-fn main() {
-    events();
+fn counts() {
     let t = Tally {
         accepted: LARGEST - 1,
         refused: LARGEST,
@@ -181,4 +165,15 @@ fn main() {
     let one = count(t, 1, 1, 5);
     counters(one);
     counters(count(one, 1, 0, LARGEST));
+}
+
+fn main() {
+    let r = reader::read(
+        b"vars d s\nsym load 1 d s\nsym drop 2 d\nsym clean 3 d\nmatch load drop+\n",
+    );
+    let book = r.book;
+    events(book);
+    counts();
+    score::report(full::filled(book, score::none()));
+    score::report(parts::tried(score::none()));
 }
