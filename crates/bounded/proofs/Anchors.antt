@@ -3,7 +3,7 @@
 -- again each time.
 use mathlib.Core.Path.{_≡_, refl}
 use mathlib.Core.Bool.{Bool, true, false}
-use mathlib.Core.List.{List, [], _∷_, map}
+use mathlib.Core.List.{List, [], _∷_, _++_, map}
 use Prim.Native.Nat.{ℕ, _-_, _^_}
 use lib.ListN.{replicate}
 use Rattle.laws.specs.Bits.{bit}
@@ -82,3 +82,48 @@ pub sound-states : map (soundState pairs)
     ≡ true ∷ true ∷ replicate 12 false
 unfolding soundState soundHeld soundPiece compareDisjuncts
 sound-states = refl
+
+-- "No room, exactly", at 128: one disjunct ends and one comes; a step set of 128; 129 meetings that are one disjunct; 129 exclusions that are 86
+-- disjuncts; four exclusions at each of two variables. Then: a step set of 129, and a seventh exclusion, at a position that nothing follows.
+abbrev two : ℕ → List Symbol → Book
+two b ss = book 2 ss (0 ∷ 1 ∷ []) b 4 (4 ∷ 0 ∷ []) false
+
+abbrev apart : List Symbol
+apart = symbol 1 (names 0 ∷ []) ∷ symbol 2 (names 1 ∷ []) ∷ []
+
+abbrev both : List Symbol
+both = symbol 1 (names 0 ∷ names 1 ∷ []) ∷ symbol 1 (names 0 ∷ names 1 ∷ []) ∷ []
+
+-- the second symbol ends all that the first leaves
+abbrev ended : Book
+ended = book 2 (symbol 1 (names 0 ∷ names 1 ∷ []) ∷ symbol 1 (ignored ∷ ignored ∷ []) ∷ []) (0 ∷ 0 ∷ []) 4 4 (4 ∷ 0 ∷ []) false
+
+abbrev load-drop : List Symbol
+load-drop = symbol 1 (names 0 ∷ names 1 ∷ []) ∷ symbol 2 (names 0 ∷ []) ∷ []
+
+pub exact-room :
+    (room pairs (many 128) (record { kind = 1; args = 5 ∷ [] }) ≡ true)
+    × (room (two 2 load-drop) (map (λ x. heldAt 1 (bound 1 ∷ bound x ∷ [])) (numbers 0 128)) (record { kind = 2; args = 1 ∷ [] }) ≡ true)
+    × (room (book 1 (symbol 1 (names 0 ∷ []) ∷ []) (0 ∷ 0 ∷ []) 4 4 (4 ∷ 0 ∷ []) false) (map (λ x. heldAt 1 (free (x ∷ []) ∷ [])) (numbers 0 128))
+    (record { kind = 1; args = 900 ∷ [] }) ≡ true)
+    × (room (book 2 (symbol 1 (names 0 ∷ names 1 ∷ []) ∷ []) (0 ∷ 0 ∷ []) 4 4 (4 ∷ 0 ∷ []) false)
+    (map (λ x. heldAt 1 (free [] ∷ free (x ∷ []) ∷ [])) (numbers 10 43) ++ map (λ x. heldAt 1 (free (1 ∷ []) ∷ free (x ∷ []) ∷ [])) (numbers 10 43))
+    (record { kind = 1; args = 1 ∷ 900 ∷ [] }) ≡ true)
+    × (room (two 2 apart) (heldAt 1 (free (1 ∷ 2 ∷ 3 ∷ 4 ∷ []) ∷ free (5 ∷ 6 ∷ 7 ∷ 8 ∷ []) ∷ []) ∷ []) (record { kind = 9; args = [] }) ≡ true)
+    × (room (two 4 apart) (map (λ x. heldAt 1 (bound x ∷ free [] ∷ [])) (numbers 0 128)) (record { kind = 2; args = 900 ∷ [] }) ≡ false)
+    × (room pairs (heldAt 2 (free (1 ∷ 2 ∷ 3 ∷ 4 ∷ 5 ∷ 6 ∷ []) ∷ []) ∷ []) (record { kind = 1; args = 7 ∷ [] }) ≡ false)
+    × (room ended (map (λ x. heldAt 1 (free [] ∷ free (x ∷ []) ∷ [])) (numbers 10 64)) (record { kind = 1; args = 1 ∷ 900 ∷ [] }) ≡ true)
+    × (room ended (map (λ x. heldAt 1 (free [] ∷ free (x ∷ []) ∷ [])) (numbers 10 65)) (record { kind = 1; args = 1 ∷ 900 ∷ [] }) ≡ false)
+unfolding bit matches constraintOf compareDisjuncts skipBy sources stepSet skipSet newLabel newHeld setRoom room
+exact-room = (refl, refl, refl, refl, refl, refl, refl, refl, refl)
+
+-- "A position that nothing follows keeps none", whatever a state holds there
+pub none-kept : newHeld pairs (heldAt 1 (bound 4 ∷ []) ∷ heldAt 2 (bound 3 ∷ []) ∷ []) (record { kind = 1; args = 5 ∷ [] })
+    ≡ heldAt 1 (bound 4 ∷ []) ∷ heldAt 1 (bound 5 ∷ []) ∷ []
+unfolding bit matches constraintOf compareDisjuncts skipBy sources stepSet skipSet newLabel newHeld
+none-kept = refl
+
+-- no more is asked of a book or a state than the list after "Sound means"
+pub no-more : (soundBook (book 1 (symbol 1 [] ∷ []) (0 ∷ []) 0 0 (0 ∷ []) false) ≡ true) × (soundState pairs (state 0 (heldAt 2 (bound 3 ∷ []) ∷ [])) ≡ true)
+unfolding bit soundBook soundSymbol soundState soundHeld soundPiece compareDisjuncts
+no-more = (refl, refl)

@@ -181,6 +181,8 @@ table =
     -- ours: "the kinds are equal and the event's argument count equals the symbol's": one more, one less, another kind, and a match
     ∷ runs "vars d\nsym a 1 d\nmatch a\n"
     (line (sent 1 (5 ∷ 6 ∷ [])) 0 [] ∷ line (sent 1 []) 0 [] ∷ line (sent 2 (5 ∷ [])) 0 [] ∷ line (sent 1 (5 ∷ [])) 0 (row 4 (5 ∷ []) ∷ []) ∷ [])
+    -- ours: ignored arguments beside bound ones, the variables not in their order
+    ∷ runs "vars d s\nsym a 1 _ s _ d\nmatch a\n" (line (sent 1 (9 ∷ 8 ∷ 7 ∷ 6 ∷ [])) 0 (row 1 (6 ∷ 8 ∷ []) ∷ []) ∷ [])
     -- ours: rows that differ in the second value only
     ∷ runs "vars d s\nsym load 1 d s\nsym stop 9\nmatch load stop\n"
     (line (load 1 9) 0 [] ∷ line (load 1 8) 0 [] ∷ line (sent 9 []) 0 (row 3 (1 ∷ 8 ∷ []) ∷ row 3 (1 ∷ 9 ∷ []) ∷ []) ∷ [])

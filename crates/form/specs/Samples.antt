@@ -146,6 +146,15 @@ variables =
     ∷ refuses (ascii "vars  a\n") 2 5
     ∷ refuses (ascii "vars a \n") 2 6
     ∷ refuses (ascii "vars a a\n") 4 7
+    -- spaces at a line's end, the first of them, also before the book's end; an excess word of any form; at one place the smaller number
+    ∷ refuses (ascii "vars a  \n") 2 6
+    ∷ refuses (ascii "vars a ") 2 6
+    ∷ refuses (ascii "vars a b c d !\n") 3 13
+    ∷ refuses (ascii "vars abcdefghijklm!\n") 2 5
+    -- "then a to z or 0 to 9": no capital, no `_`
+    ∷ refuses (ascii "vars aB\n") 2 5
+    ∷ refuses (ascii "vars a_b\n") 2 5
+    ∷ refuses (ascii "varsx\n") 2 0
     ∷ []
 
 -- the lines of symbols, and the end
@@ -173,6 +182,10 @@ lines =
     ∷ refuses (ascii "vars b\nsym a 1 b _ !\n") 2 19
     ∷ refuses (ascii "vars\nsym a 1 abcdefghijklm\n") 3 13
     ∷ refuses (ascii "vars b\nsym a 1 c\n") 5 15
+    ∷ refuses (ascii "vars b\nsym a 1 b b b b !\n") 3 23
+    ∷ refuses (ascii "vars\nsym a 1\nmatch(a)\n") 2 13
+    ∷ refuses (ascii "vars\nsymb 1\n") 2 5
+    ∷ refuses (ascii "vars\nsym a 1\nmatch (a") 2 21
     ∷ refuses (ascii "vars\nsym a 1\nsym a 2\n") 4 17
     ∷ refuses (ascii "vars\nsym a 1\nmatch\n") 2 18
     ∷ refuses (ascii "vars\nsym a 1\nmatch \n") 6 19
@@ -207,6 +220,9 @@ many =
 unfoldable pub deep : List Sample
 deep =
     accepts (oneText (times 16 "(" ++ (ascii "a" ++ times 16 ")"))) (one (times 16 "(" ++ (ascii "a" ++ times 16 ")")) (lit 0))
+    -- 17 one after the other; spaces before a sign
+    ∷ accepts (oneText (times 17 "(a)")) (one (times 17 "(a)") (behind 16))
+    ∷ accepts (oneText (ascii "a * ( a ) +")) (one (ascii "a * ( a ) +") (cat (star (lit 0)) (plus (lit 0))))
     ∷ refuses (oneText (times 17 "(" ++ (ascii "a" ++ times 17 ")"))) 3 35
     ∷ []
 

@@ -1,6 +1,6 @@
 -- What the definitions compute, by computation from them alone, so that a wrong one is refused here first, because a fact is false. `starred`:
 -- every starred roast that is an event run comes out as document 01 has it; `on-the-way`, `partial-held`, `mixed-held`, `thrice-held` and `full`
--- are further cases about room and about what is held; `unconcerned` and `exchanged` are cases that the declarative meaning and demand 3 rule
+-- are further cases about room and about what is held, `disjuncts-ordered` is their order; `unconcerned` and `exchanged` are cases that the declarative meaning and demand 3 rule
 -- out.
 use mathlib.Core.Path.{_≡_, refl}
 use mathlib.Core.Bool.{Bool, true, false, false≢true}
@@ -10,11 +10,12 @@ use native.Mathlib.Omega.{arith}
 use lib.ListN.{replicate}
 use Rattle.laws.specs.Bits.{bit, join, meet, single}
 use Rattle.laws.specs.Lists.{all}
+use Rattle.laws.specs.Order.{ascending}
 use Rattle.pattern.specs.Regex.{lit}
 use Rattle.meaning.specs.Events.{Event, names, matches, constraintOf, wellFormed, isValuation, holds, concerns}
 use Rattle.meaning.specs.Meaning.{Tracematch, noEvent, Row}
 use Rattle.meaning.specs.Book.{bookOf, isProper, soundSymbol}
-use Rattle.meaning.specs.Labels.{compareDisjuncts, skipBy, sources, stepSet, skipSet, newLabel, newHeld}
+use Rattle.meaning.specs.Labels.{bound, free, compareDisjuncts, skipBy, sources, stepSet, skipSet, newLabel, newHeld}
 use Rattle.meaning.specs.Room.{setRoom, room}
 use Rattle.meaning.specs.Rows.{rows}
 use Rattle.meaning.specs.Runs.{heldAfter, Pairing, Ordered}
@@ -53,6 +54,15 @@ thrice-held = refl
 pub full : (setRoom (replicate 128 []) ≡ true) × (setRoom (replicate 129 []) ≡ false)
 unfolding setRoom
 full = (refl, refl)
+
+-- "by values (a free variable before any value), then by exclusion lists, a list before any that it begins": all values, from the first variable
+-- on, before any exclusion; lists by their first difference, however long
+pub disjuncts-ordered : ascending compareDisjuncts
+    ((free (9 ∷ []) ∷ bound 2 ∷ []) ∷ (free [] ∷ bound 3 ∷ []) ∷ (free (1 ∷ 2 ∷ []) ∷ bound 3 ∷ []) ∷ (free (2 ∷ []) ∷ bound 3 ∷ [])
+    ∷ (bound 1 ∷ free [] ∷ []) ∷ (bound 1 ∷ bound 9 ∷ []) ∷ (bound 2 ∷ bound 5 ∷ []) ∷ [])
+    ≡ true
+unfolding compareDisjuncts
+disjuncts-ordered = refl
 
 -- `vars d`, `sym a 1 d`, `match a`, and its event with argument x
 abbrev once : Tracematch

@@ -88,7 +88,7 @@ fn judged(book: Book, state: State, e: Event, out: &mut rows::Words) -> Stepped
     let mut masks = [0u32; state::CAPACITY];
     state::load(state, book.variables, &mut at, &mut held);
     step::follow_masks(follows, &at, state.count, &mut masks);
-    if collect::leaves_free(book, cs, &held, &at, &masks, state.count) {
+    if unbound::leaves_free(book, cs, &held, &at, &masks, state.count) {
         return refusal(9, state);
     }
     if state.number == state::EVENTS {

@@ -1,4 +1,4 @@
--- `collect::free_met` meets its contract: the meeting succeeds and its disjunct is looked at, or it fails and leaves nothing free.
+-- `unbound::free_met` meets its contract: the meeting succeeds and its disjunct is looked at, or it fails and leaves nothing free.
 use mathlib.Core.Path.{sym, ap, _∙_}
 use lib.ListN.{take}
 use borrow.Author.Needs.{needs}
@@ -7,8 +7,8 @@ use Rattle.meaning.specs.Labels.{isFree}
 use Rattle.bounded.proofs.RowSets.{free-met, free-unmet}
 use Rattle.constraint.specs.Constraints.{viewConstraint}
 use Rattle.disjunct.specs.Disjuncts.{viewDisjunct}
-use Rattle.collect.proofs.free_met.Statement.{statement}
-use Rattle.collect.proofs.free_met.Tie as tie
+use Rattle.unbound.proofs.free_met.Statement.{statement}
+use Rattle.unbound.proofs.free_met.Tie as tie
 
 meet-requires : tie.Need-meet-requires
 meet-requires c κs = search needs

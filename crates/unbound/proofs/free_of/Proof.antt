@@ -1,4 +1,4 @@
--- `collect::free_of` meets its contract: the test of a position that ends; false where it does not, or its constraint is false.
+-- `unbound::free_of` meets its contract: the test of a position that ends; false where it does not, or its constraint is false.
 use mathlib.Core.Path.{sym, ap, _∙_}
 use mathlib.Core.Bool.{cond}
 use mathlib.Core.List.{[]}
@@ -11,8 +11,8 @@ use Rattle.bounded.proofs.RowSets.{free-none, free-never}
 use Rattle.constraint.specs.Constraints.{viewConstraint}
 use Rattle.constraint.proofs.Views.{never-view}
 use Rattle.sets.specs.Sets.{disjunctsIn}
-use Rattle.collect.proofs.free_of.Statement.{statement}
-use Rattle.collect.proofs.free_of.Tie as tie
+use Rattle.unbound.proofs.free_of.Statement.{statement}
+use Rattle.unbound.proofs.free_of.Tie as tie
 
 has-requires : tie.Need-has-requires
 has-requires c κs = search needs

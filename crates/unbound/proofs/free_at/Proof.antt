@@ -1,4 +1,4 @@
--- `collect::free_at` meets its contract: the test of the disjuncts ahead is that of all, since those passed leave nothing free.
+-- `unbound::free_at` meets its contract: the test of the disjuncts ahead is that of all, since those passed leave nothing free.
 use mathlib.Core.Path.{_≡_, sym, ap, _∙_}
 use mathlib.Core.Bool.{Bool, cond, _||_}
 use mathlib.Core.List.{[], _∷_}
@@ -16,9 +16,9 @@ use Rattle.disjunct.specs.Disjuncts.{viewDisjunct}
 use Rattle.disjunct.proofs.Disjuncts.{free-view}
 use Rattle.sets.specs.Sets.{disjunctsIn}
 use Rattle.sets.proofs.Sets.{in-length}
 use Rattle.collect.proofs.Turns.{ahead, ahead-all, ahead-none, ahead-next, free-more, starts, starts-not}
-use Rattle.collect.proofs.free_at.Statement.{statement}
-use Rattle.collect.proofs.free_at.Tie as tie
+use Rattle.unbound.proofs.free_at.Statement.{statement}
+use Rattle.unbound.proofs.free_at.Tie as tie
 
 abbrev Inv-loop : tie.InvT-loop
 Inv-loop held masks n q begins c v i₀ i =

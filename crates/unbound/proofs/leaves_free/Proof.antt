@@ -1,4 +1,4 @@
--- `collect::leaves_free` meets its contract: the test of the positions ahead is that of all, since those passed leave nothing free.
+-- `unbound::leaves_free` meets its contract: the test of the positions ahead is that of all, since those passed leave nothing free.
 use mathlib.Core.Path.{_≡_, sym, ap, _∙_}
 use mathlib.Core.Bool.{Bool, _||_}
 use Prim.Native.Nat.{_+_, _-_, _≤_, _<_}
@@ -9,9 +9,9 @@ use Rattle.bounded.specs.Wide.{wideBook}
 use Rattle.bounded.specs.Bounded.{freeRows}
 use Rattle.book.specs.Books.{viewBook}
 use Rattle.sets.specs.Held.{heldIn}
 use Rattle.collect.proofs.Symbols.{symbolAt, Agree, freeAhead, free-first, Known, few-variables, symbol-below, free-turn, free-last}
-use Rattle.collect.proofs.leaves_free.Statement.{statement}
-use Rattle.collect.proofs.leaves_free.Tie as tie
+use Rattle.unbound.proofs.leaves_free.Statement.{statement}
+use Rattle.unbound.proofs.leaves_free.Tie as tie
 
 abbrev Inv-loop : tie.InvT-loop
 Inv-loop held at masks n book cs positions i₀ i =
