@@ -27,10 +27,10 @@ use Rattle.bounded.proofs.Picks.{label-pick}
 use Rattle.bounded.proofs.Labels.{labelAt, advanced, advanced-full, advanced-all, labelled-at, label-ascending}
 use Rattle.constraint.specs.declared.Constraint.{Constraint}
 use Rattle.constraint.specs.Constraints.{viewConstraint, noConstraint}
-use Rattle.sets.specs.Sets.{disjunctsIn}
+use Rattle.packed.specs.Sets.{disjunctsIn}
 use Rattle.book.specs.declared.Book.{Book}
 use Rattle.book.specs.Books.{viewBook}
-use Rattle.sets.specs.Held.{heldIn, heldGrown}
+use Rattle.packed.specs.Held.{heldIn, heldGrown}
 use Rattle.advance.proofs.Held.{held-grown, held-full}
 
 -- two maps that agree, element by element

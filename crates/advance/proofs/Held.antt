@@ -16,9 +16,9 @@ use Rattle.meaning.specs.Labels.{Disjunct, Held, heldAt}
 use Rattle.meaning.specs.Room.{heldLimit}
 use Rattle.bounded.specs.Bounded.{heldOf, appended}
 use Rattle.bounded.proofs.Picks.{held-of-length}
-use Rattle.sets.specs.Sets.{disjunctsIn, grownIn}
-use Rattle.sets.proofs.Sets.{in-length, in-grown, in-full}
-use Rattle.sets.specs.Held.{heldIn, heldGrown}
+use Rattle.packed.specs.Sets.{disjunctsIn, grownIn}
+use Rattle.packed.proofs.Sets.{in-length, in-grown, in-full}
+use Rattle.packed.specs.Held.{heldIn, heldGrown}
 
 held-of-append : (ps qs : List ℕ) (k l : List Disjunct) → length ps ≡ length k → heldOf (ps ++ qs) (k ++ l) ≡ heldOf ps k ++ heldOf qs l
 held-of-append [] qs [] l h = refl

@@ -16,8 +16,8 @@ use Rattle.meaning.specs.Labels.{Disjunct, compareDisjuncts, skipThrough}
 use Rattle.meaning.specs.Room.{heldLimit, skipRoom}
 use Rattle.automaton.proofs.Orders.{disjunct-order}
 use Rattle.bounded.specs.Bounded.{pick, withStart, metList, metSet, skippedThrough, labelled}
-use Rattle.sets.specs.Sets.{disjunctsIn, grownIn}
-use Rattle.sets.proofs.Sets.{grown-in, in-grown, in-full}
+use Rattle.packed.specs.Sets.{disjunctsIn, grownIn}
+use Rattle.packed.proofs.Sets.{grown-in, in-grown, in-full}
 
 -- a count with its words against a set that there is room for, or not
 module _ (n : ℕ) (w : List ℕ) (l : List Disjunct) where

@@ -2,9 +2,9 @@
 use book::Book;
 use constraint::Constraint;
 use constraint::Constraints;
-use sets::CAPACITY;
-use sets::NO_ROOM;
-use sets::Words;
+use packed::CAPACITY;
+use packed::NO_ROOM;
+use packed::Words;
 ghost use mathlib.Core.Path.{_≡_};
 ghost use mathlib.Core.Bool.{true, cond, not};
 ghost use mathlib.Core.List.{map};
@@ -23,10 +23,10 @@ ghost use Rattle.meaning.specs.Limits.{symbolLimit};
 ghost use Rattle.bounded.specs.Wide.{wideBook};
 ghost use Rattle.bounded.specs.Bounded.{pick, labelled, appended};
 ghost use Rattle.constraint.specs.Constraints.{viewConstraint, noConstraint, Ready};
-ghost use Rattle.sets.specs.Sets.{disjunctsIn, grownIn};
+ghost use Rattle.packed.specs.Sets.{disjunctsIn, grownIn};
 ghost use Rattle.book.specs.Books.{viewBook};
 ghost use Rattle.book.specs.Counts.{Counts};
-ghost use Rattle.sets.specs.Held.{heldIn, heldGrown};
+ghost use Rattle.packed.specs.Held.{heldIn, heldGrown};
 
 // What one position has: its number, whether it begins, what follows it, and its symbol's constraint.
 pub struct Position {
@@ -148,9 +148,9 @@ pub fn advance(
         ≡ cond (room (wideBook (viewBook book)) (heldIn n (now (at .entry)) (now (held .entry))) e)
         (Grown.grown (newHeld (wideBook (viewBook book)) (heldIn n (now (at .entry)) (now (held .entry))) e)) Grown.full) ⌝ }
 {
-    let mut words = [0u32; sets::WORDS];
-    let mut a = [0u32; sets::WORDS];
-    let mut b = [0u32; sets::WORDS];
+    let mut words = [0u32; packed::WORDS];
+    let mut a = [0u32; packed::WORDS];
+    let mut b = [0u32; packed::WORDS];
     let positions = book.positions;
     let mut total: usize = 0;
     let mut i: usize = 0;

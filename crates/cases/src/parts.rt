@@ -7,7 +7,7 @@ use disjunct::Disjunct;
 ghost use Prim.Native.Nat.{_<_};
 ghost use Rattle.constraint.specs.Constraints.{Ready};
 
-const SET_WORDS: usize = sets::WORDS;
+const SET_WORDS: usize = packed::WORDS;
 
 const ROWS_WORDS: usize = rows::WORDS;
 
@@ -85,7 +85,7 @@ fn insertions(s: Score) -> Score {
     let d = bound();
     let n = sets::insert(&mut words, 0, d);
     let t = s.with(n == 1);
-    let e = sets::get(&words, 0);
+    let e = packed::get(&words, 0);
     t.with(ordering::order(e, d) == 1)
 }
 
@@ -102,18 +102,18 @@ fn only_excludes(d: Disjunct, v: usize, x: u32) -> bool
 fn skips(s: Score) -> Score {
     let mut from = [0u32; SET_WORDS];
     let mut out = [0u32; SET_WORDS];
-    sets::put(&mut from, 0, Disjunct::free());
+    packed::put(&mut from, 0, Disjunct::free());
     let n = skip::skip_by(&from, 1, demanding(1, 7), &mut out);
     let mut t = s.with(n == 2);
-    t = t.with(only_excludes(sets::get(&out, 0), 1, 7));
-    t.with(only_excludes(sets::get(&out, 1), 0, 1))
+    t = t.with(only_excludes(packed::get(&out, 0), 1, 7));
+    t.with(only_excludes(packed::get(&out, 1), 0, 1))
 }
 
 // The met disjunct past the constraint: none.
 fn skips_none(s: Score) -> Score {
     let mut from = [0u32; SET_WORDS];
     let mut out = [0u32; SET_WORDS];
-    sets::put(&mut from, 0, bound());
+    packed::put(&mut from, 0, bound());
     let n = skip::skip_by(&from, 1, demanding(1, 7), &mut out);
     s.with(n == 0)
 }

@@ -23,11 +23,11 @@ use Rattle.bounded.specs.Bounded.{pick, withStart, rowLimit, rowsWith, freeIn, 
 use Rattle.bounded.proofs.RowSets.{ending, rowsFrom, from-full, from-none, from-next, collected-rows, freeFrom, free-end, free-next, free-all}
 use Rattle.constraint.specs.declared.Constraint.{Constraint}
 use Rattle.constraint.specs.Constraints.{viewConstraint, noConstraint}
-use Rattle.sets.specs.Sets.{disjunctsIn}
+use Rattle.packed.specs.Sets.{disjunctsIn}
 use Rattle.book.specs.declared.Book.{Book}
 use Rattle.book.specs.Books.{viewBook}
 use Rattle.book.specs.Counts.{Counts}
-use Rattle.sets.specs.Held.{heldIn}
+use Rattle.packed.specs.Held.{heldIn}
 
 -- an element that is there does not depend on what stands for one that is not
 getD-any : {A : Type 0} (l : List A) (i : ℕ) (c d : A) → i < length l → getD l i c ≡ getD l i d

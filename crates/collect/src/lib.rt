@@ -4,10 +4,10 @@ use book::Book;
 use constraint::Constraint;
 use constraint::Constraints;
 use disjunct::Disjunct;
+use packed::CAPACITY;
+use packed::Words;
 use rows::NO_ROOM;
 use rows::ROWS;
-use sets::CAPACITY;
-use sets::Words;
 ghost use mathlib.Core.Path.{_≡_};
 ghost use mathlib.Core.Bool.{true, cond};
 ghost use mathlib.Core.List.{[], _∷_, map};
@@ -25,10 +25,10 @@ ghost use Rattle.bounded.specs.Wide.{wideBook};
 ghost use Rattle.bounded.specs.Bounded.{pick, withStart, rowLimit, rowsWith};
 ghost use Rattle.constraint.specs.Constraints.{viewConstraint, noConstraint, Ready};
 ghost use Rattle.disjunct.specs.Disjuncts.{viewDisjunct};
-ghost use Rattle.sets.specs.Sets.{disjunctsIn};
+ghost use Rattle.packed.specs.Sets.{disjunctsIn};
 ghost use Rattle.book.specs.Books.{viewBook};
 ghost use Rattle.book.specs.Counts.{Counts};
-ghost use Rattle.sets.specs.Held.{heldIn};
+ghost use Rattle.packed.specs.Held.{heldIn};
 ghost use Rattle.rows.specs.Valuations.{valuationsIn, rowsGrown};
 
 // The row that d gives with c, put among the first m.
@@ -72,7 +72,7 @@ fn rows_at(
     let mut i: usize = 0;
     while i < n {
         if step::has(masks[i], q) {
-            let d = sets::get(held, i);
+            let d = packed::get(held, i);
             k = add_row(out, k, d, c);
             if ROWS < k {
                 return NO_ROOM;

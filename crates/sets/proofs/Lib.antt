@@ -1,5 +1,2 @@
--- The laws of sets in lent words.
-pub mod Words
-pub mod Views
-pub mod Sets
+-- What the loops over two sets share (Turns).
 pub mod Turns

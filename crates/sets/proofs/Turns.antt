@@ -14,10 +14,10 @@ use Rattle.laws.specs.Sets.{insert, insertAll, within}
 use Rattle.laws.proofs.Sets.{insert-ascending}
 use Rattle.meaning.specs.Labels.{Disjunct, compareDisjuncts}
 use Rattle.automaton.proofs.Orders.{disjunct-order}
-use Rattle.sets.specs.Sets.{disjunctsIn, grownIn}
+use Rattle.packed.specs.Sets.{disjunctsIn, grownIn}
 use Rattle.laws.proofs.Arrays.{behind-more, insertAll-more, insertAll-over}
 use Rattle.laws.proofs.Turns.{counted-few, few-counted, over-counted}
-use Rattle.sets.proofs.Sets.{in-length, in-grown, in-full}
+use Rattle.packed.proofs.Sets.{in-length, in-grown, in-full}
 
 -- the first n disjuncts
 abbrev first : ℕ → List ℕ → List Disjunct

@@ -10,8 +10,8 @@ use Rattle.laws.specs.Sets.{full, grown}
 use Rattle.meaning.specs.Labels.{Disjunct, compareDisjuncts}
 use Rattle.bounded.specs.Bounded.{growFew}
 use Rattle.bounded.proofs.Skips.{few-full, few-ascending}
-use Rattle.sets.specs.Sets.{disjunctsIn, grownIn}
-use Rattle.sets.proofs.Sets.{in-grown, in-full}
+use Rattle.packed.specs.Sets.{disjunctsIn, grownIn}
+use Rattle.packed.proofs.Sets.{in-grown, in-full}
 
 module _ (w : List ℕ) (r : ℕ) (xs l : List Disjunct) (e : grownIn r w ≡ growFew xs (grown l)) where
   -- what is to be inserted yet goes into the words

@@ -9,8 +9,8 @@ use lib.Seq.{length-take-le, getD-take}
 use borrow.Author.Tests.{le-leb}
 use Rattle.laws.proofs.Lists.{all-of, mem-index}
 use Rattle.meaning.specs.Room.{fewExclusions, setRoom}
-use Rattle.sets.specs.Sets.{disjunctsIn}
-use Rattle.sets.proofs.Sets.{in-length, few-in}
+use Rattle.packed.specs.Sets.{disjunctsIn}
+use Rattle.packed.proofs.Sets.{in-length, few-in}
 
 -- no variable has more exclusions than there are words for
 pub room-in : (n : ℕ) (w : List ℕ) → n ≤ 128 → setRoom (take n (disjunctsIn w)) ≡ true

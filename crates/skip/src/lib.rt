@@ -2,9 +2,9 @@
 use constraint::Constraint;
 use constraint::Constraints;
 use disjunct::Disjunct;
-use sets::CAPACITY;
-use sets::NO_ROOM;
-use sets::Words;
+use packed::CAPACITY;
+use packed::NO_ROOM;
+use packed::Words;
 ghost use mathlib.Core.Path.{_≡_};
 ghost use mathlib.Core.Bool.{true};
 ghost use mathlib.Core.List.{map};
@@ -20,7 +20,7 @@ ghost use Rattle.meaning.specs.Limits.{symbolLimit};
 ghost use Rattle.bounded.specs.Bounded.{pick, growFew, skipped, skippedThrough};
 ghost use Rattle.constraint.specs.Constraints.{viewConstraint, demandsIn, noConstraint, Ready};
 ghost use Rattle.disjunct.specs.Disjuncts.{viewDisjunct};
-ghost use Rattle.sets.specs.Sets.{disjunctsIn, grownIn};
+ghost use Rattle.packed.specs.Sets.{disjunctsIn, grownIn};
 
 // The label of position p.
 pub fn label(held: &Words, at: &[u32; CAPACITY], n: usize, p: u32, out: &mut Words) -> usize
@@ -33,8 +33,8 @@ pub fn label(held: &Words, at: &[u32; CAPACITY], n: usize, p: u32, out: &mut Wor
     let mut i: usize = 0;
     while i < n {
         if parameters[i] == p {
-            let d = sets::get(held, i);
-            sets::put(out, m, d);
+            let d = packed::get(held, i);
+            packed::put(out, m, d);
             m += 1;
         }
         i += 1;
@@ -89,7 +89,7 @@ pub fn skip_by(from: &Words, n: usize, c: Constraint, out: &mut Words) -> usize
     let mut m: usize = 0;
     let mut i: usize = 0;
     while i < n {
-        let d = sets::get(from, i);
+        let d = packed::get(from, i);
         m = skip_one(d, c, out, m);
         if CAPACITY < m {
             return NO_ROOM;

@@ -18,9 +18,9 @@ use Rattle.bounded.proofs.Picks.{held-of-length, held-positions}
 use Rattle.disjunct.specs.declared.Disjunct.{Disjunct}
 use Rattle.disjunct.specs.Disjuncts.{viewDisjunct, disjunctOf}
 use Rattle.disjunct.proofs.Disjuncts.{view-disjunct}
-use Rattle.sets.specs.Sets.{disjunctsIn}
-use Rattle.sets.proofs.Sets.{in-length, wide-in}
-use Rattle.sets.specs.Held.{heldIn}
+use Rattle.packed.specs.Sets.{disjunctsIn}
+use Rattle.packed.proofs.Sets.{in-length, wide-in}
+use Rattle.packed.specs.Held.{heldIn}
 use Rattle.laws.proofs.Fills.{fill-more}
 use Rattle.state.specs.declared.State.{State}
 use Rattle.state.specs.States.{stateOf, heldFirst}

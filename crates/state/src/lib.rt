@@ -1,6 +1,6 @@
 // The state of a watch by value: the event number and the pool of disjuncts; taken into lent words and made of them.
 use disjunct::Disjunct;
-use sets::Words;
+use packed::Words;
 ghost use mathlib.Core.Path.{_≡_};
 ghost use mathlib.Core.List.{[], map};
 ghost use Prim.Native.Nat.{_≤_, _<_};
@@ -8,11 +8,11 @@ ghost use lib.ListN.{length, getD, set};
 ghost use Rattle.meaning.specs.Room.{heldLimit};
 ghost use Rattle.meaning.specs.Limits.{variableLimit};
 ghost use Rattle.bounded.specs.Wide.{wideHeld};
-ghost use Rattle.sets.specs.Held.{heldIn};
+ghost use Rattle.packed.specs.Held.{heldIn};
 ghost use Rattle.state.specs.States.{stateOf, heldFirst};
 
 // "all 128 disjunct places": a place for each disjunct of a set.
-pub const CAPACITY: usize = sets::CAPACITY;
+pub const CAPACITY: usize = packed::CAPACITY;
 
 // "1,000,000 events"
 pub const EVENTS: u32 = 1000000;
@@ -64,7 +64,7 @@ pub fn load(s: State, variables: usize, at: &mut [u32; CAPACITY], words: &mut Wo
     while i < n {
         let d = s.pool[i];
         put_position(at, i, s.positions[i]);
-        sets::put(words, i, d.tidied(variables));
+        packed::put(words, i, d.tidied(variables));
         i += 1;
     }
 }
@@ -77,7 +77,7 @@ pub fn store(number: u32, at: &[u32; CAPACITY], words: &Words, n: usize) -> Stat
     let mut s = vacant(number);
     let mut i: usize = 0;
     while i < n {
-        let d = sets::get(words, i);
+        let d = packed::get(words, i);
         s.positions[i] = position_at(at, i);
         s.pool[i] = d.tidied(Disjunct::VARIABLES);
         i += 1;

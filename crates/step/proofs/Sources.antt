@@ -20,8 +20,8 @@ use Rattle.meaning.specs.Labels.{Disjunct, compareDisjuncts}
 use Rattle.automaton.proofs.Orders.{disjunct-order}
 use Rattle.bounded.specs.Bounded.{pick, metList}
 use Rattle.bounded.proofs.Picks.{pick-next}
-use Rattle.sets.specs.Sets.{disjunctsIn, grownIn}
-use Rattle.sets.proofs.Sets.{in-length, in-grown, in-full}
+use Rattle.packed.specs.Sets.{disjunctsIn, grownIn}
+use Rattle.packed.proofs.Sets.{in-length, in-grown, in-full}
 use Rattle.step.proofs.Meetings.{met-both}
 
 -- the sources among the first n, from the i-th held disjunct on

@@ -1,10 +1,10 @@
 // The step set of a position: its symbol's constraint met with the disjuncts of its sources. For the new labels and the rows.
 use constraint::Constraint;
 use disjunct::Disjunct;
+use packed::CAPACITY;
+use packed::NO_ROOM;
+use packed::Words;
 use piece::POSITIONS;
-use sets::CAPACITY;
-use sets::NO_ROOM;
-use sets::Words;
 ghost use mathlib.Core.Path.{_≡_};
 ghost use mathlib.Core.Bool.{true, _&&_};
 ghost use mathlib.Core.List.{[], _∷_, map};
@@ -21,7 +21,7 @@ ghost use Rattle.meaning.specs.Room.{heldLimit};
 ghost use Rattle.bounded.specs.Bounded.{pick, withStart, metList, metSet};
 ghost use Rattle.constraint.specs.Constraints.{viewConstraint, Ready};
 ghost use Rattle.disjunct.specs.Disjuncts.{viewDisjunct};
-ghost use Rattle.sets.specs.Sets.{disjunctsIn, grownIn};
+ghost use Rattle.packed.specs.Sets.{disjunctsIn, grownIn};
 
 // Whether bit p of m is set.
 pub fn has(m: u32, p: usize) -> bool
@@ -101,7 +101,7 @@ fn add_sources(
     let mut i: usize = 0;
     while i < n {
         if has(masks[i], q) {
-            let d = sets::get(held, i);
+            let d = packed::get(held, i);
             m = add_met(out, m, d, c);
             if CAPACITY < m {
                 return NO_ROOM;

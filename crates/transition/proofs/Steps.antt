@@ -31,11 +31,11 @@ use Rattle.bounded.proofs.Wide.{wide-sound, wide-held, wide-room, wide-rows, wi
 use Rattle.table.specs.Tables.{viewSymbol}
 use Rattle.constraint.specs.declared.Constraint.{Constraint}
 use Rattle.constraint.specs.Constraints.{viewConstraint}
-use Rattle.sets.specs.Sets.{disjunctsIn}
-use Rattle.sets.proofs.Sets.{in-length, wide-in}
+use Rattle.packed.specs.Sets.{disjunctsIn}
+use Rattle.packed.proofs.Sets.{in-length, wide-in}
 use Rattle.book.specs.declared.Book.{Book}
 use Rattle.book.specs.Books.{viewBook}
-use Rattle.sets.specs.Held.{heldIn, heldGrown}
+use Rattle.packed.specs.Held.{heldIn, heldGrown}
 use Rattle.advance.proofs.Held.{grown-held, full-held}
 use Rattle.state.specs.declared.State.{State}
 use Rattle.state.specs.States.{stateOf, heldFirst, viewState}

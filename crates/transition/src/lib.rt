@@ -17,7 +17,7 @@ ghost use Rattle.bounded.specs.Wide.{wideHeld};
 ghost use Rattle.record.specs.Records.{eventIn, viewEvent};
 ghost use Rattle.constraint.specs.Constraints.{viewConstraint, noConstraint, Ready};
 ghost use Rattle.book.specs.Books.{viewBook};
-ghost use Rattle.sets.specs.Held.{heldIn};
+ghost use Rattle.packed.specs.Held.{heldIn};
 ghost use Rattle.state.specs.States.{heldFirst};
 ghost use Rattle.sound.specs.Soundness.{bookSound, stateSound};
 ghost use Rattle.calls.specs.Answers.{numberOf, firstOf};
@@ -46,7 +46,7 @@ fn moved(
     book: Book,
     state: State,
     cs: Constraints,
-    held: &sets::Words,
+    held: &packed::Words,
     at: &[u32; state::CAPACITY],
     masks: &[u32; state::CAPACITY],
     out: &mut rows::Words,
@@ -59,7 +59,7 @@ fn moved(
         → (r .number ≡ cond (roomBy book state e) 0 12) × (r .number ≡ 0 → Moved book state e (r .state) (r .rows) (now (out .exit)))) ⌝ }
 {
     let n = state.count;
-    let mut next = [0u32; sets::WORDS];
+    let mut next = [0u32; packed::WORDS];
     let mut next_at = [0u32; state::CAPACITY];
     let k = advance::advance(book, cs, held, at, masks, n, &mut next, &mut next_at);
     if state::CAPACITY < k {
@@ -83,7 +83,7 @@ fn judged(book: Book, state: State, e: Event, out: &mut rows::Words) -> Stepped
     let table = book.table;
     let follows = book.follows;
     let cs = constraint::constraints(table, book.symbols, e);
-    let mut held = [0u32; sets::WORDS];
+    let mut held = [0u32; packed::WORDS];
     let mut at = [0u32; state::CAPACITY];
     let mut masks = [0u32; state::CAPACITY];
     state::load(state, book.variables, &mut at, &mut held);

@@ -3,8 +3,8 @@ use book::Book;
 use constraint::Constraint;
 use constraint::Constraints;
 use disjunct::Disjunct;
-use sets::CAPACITY;
-use sets::Words;
+use packed::CAPACITY;
+use packed::Words;
 ghost use mathlib.Core.Path.{_≡_};
 ghost use mathlib.Core.Bool.{true, cond};
 ghost use mathlib.Core.List.{[], _∷_, map};
@@ -20,10 +20,10 @@ ghost use Rattle.bounded.specs.Wide.{wideBook};
 ghost use Rattle.bounded.specs.Bounded.{pick, withStart, freeIn, freeRows};
 ghost use Rattle.constraint.specs.Constraints.{viewConstraint, noConstraint, Ready};
 ghost use Rattle.disjunct.specs.Disjuncts.{viewDisjunct};
-ghost use Rattle.sets.specs.Sets.{disjunctsIn};
+ghost use Rattle.packed.specs.Sets.{disjunctsIn};
 ghost use Rattle.book.specs.Books.{viewBook};
 ghost use Rattle.book.specs.Counts.{Counts};
-ghost use Rattle.sets.specs.Held.{heldIn};
+ghost use Rattle.packed.specs.Held.{heldIn};
 
 // Whether d met with c leaves one of the first v variables free.
 fn free_met(d: Disjunct, c: Constraint, v: usize) -> bool
@@ -60,7 +60,7 @@ fn free_at(
     let mut i: usize = 0;
     while i < n {
         if step::has(masks[i], q) {
-            let d = sets::get(held, i);
+            let d = packed::get(held, i);
             if free_met(d, c, v) {
                 return true;
             }

@@ -10,7 +10,7 @@ use Rattle.meaning.specs.Events as Events
 use Rattle.meaning.specs.Labels.{Disjunct, compareDisjuncts}
 use Rattle.bounded.specs.Bounded.{pick, skippedThrough}
 use Rattle.constraint.specs.Constraints.{viewConstraint}
-use Rattle.sets.specs.Sets.{disjunctsIn, grownIn}
+use Rattle.packed.specs.Sets.{disjunctsIn, grownIn}
 use Rattle.advance.proofs.Labels.{step-ascending, step-over, skip-over, label-none, label-joined}
 use borrow.Author.Needs.{needs}
 use Rattle.advance.proofs.new_label.Statement.{statement}

@@ -11,7 +11,7 @@ use Rattle.bounded.specs.Wide.{wideBook}
 use Rattle.bounded.specs.Bounded.{rowLimit, rowsWith}
 use Rattle.constraint.specs.Constraints.{viewConstraint}
 use Rattle.book.specs.Books.{viewBook}
-use Rattle.sets.specs.Held.{heldIn}
+use Rattle.packed.specs.Held.{heldIn}
 use Rattle.rows.specs.Valuations.{rowsGrown}
 use Rattle.rows.proofs.Valuations.{in-grown, in-full}
 use Rattle.collect.proofs.Turns.{Sorted, listed, sorted-more}

@@ -16,8 +16,8 @@ use Rattle.bounded.proofs.RowSets.{rows-none}
 use Rattle.constraint.specs.Constraints.{viewConstraint}
 use Rattle.disjunct.specs.Disjuncts.{viewDisjunct}
 use Rattle.disjunct.proofs.Disjuncts.{free-view}
-use Rattle.sets.specs.Sets.{disjunctsIn}
-use Rattle.sets.proofs.Sets.{in-length}
+use Rattle.packed.specs.Sets.{disjunctsIn}
+use Rattle.packed.proofs.Sets.{in-length}
 use Rattle.rows.specs.Valuations.{rowsGrown}
 use Rattle.rows.proofs.Valuations.{in-grown}
 use Rattle.collect.proofs.Turns.{ahead, ahead-all, ahead-none, ahead-next, starts, starts-not}

@@ -10,7 +10,7 @@ use Rattle.bounded.specs.Bounded.{pick, withStart, rowsWith}
 use Rattle.bounded.proofs.RowSets.{rows-none, rows-never}
 use Rattle.constraint.specs.Constraints.{viewConstraint}
 use Rattle.constraint.proofs.Views.{never-view}
-use Rattle.sets.specs.Sets.{disjunctsIn}
+use Rattle.packed.specs.Sets.{disjunctsIn}
 use Rattle.rows.proofs.Valuations.{in-grown}
 use Rattle.collect.proofs.Turns.{listed}
 use Rattle.collect.proofs.rows_of.Statement.{statement}

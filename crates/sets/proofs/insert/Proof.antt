@@ -7,8 +7,8 @@ use lib.ListN.{length}
 use Rattle.laws.proofs.Turns.{insert-found, insert-over, insert-put}
 use Rattle.meaning.specs.Labels.{compareDisjuncts}
 use Rattle.disjunct.specs.Disjuncts.{viewDisjunct}
-use Rattle.sets.specs.Sets.{disjunctsIn}
-use Rattle.sets.proofs.Sets.{in-length, in-counted, in-full}
+use Rattle.packed.specs.Sets.{disjunctsIn}
+use Rattle.packed.proofs.Sets.{in-length, in-counted, in-full}
 use Rattle.sets.proofs.insert.Statement.{statement}
 use Rattle.sets.proofs.insert.Tie as tie
 

@@ -12,8 +12,8 @@ use Rattle.automaton.proofs.Orders.{disjunct-order}
 use Rattle.slot.specs.Slots.{rank}
 use Rattle.slot.proofs.Slots.{rank-before, rank-equal}
 use Rattle.disjunct.specs.Disjuncts.{viewDisjunct}
-use Rattle.sets.specs.Sets.{disjunctsIn}
-use Rattle.sets.proofs.Sets.{in-length}
+use Rattle.packed.specs.Sets.{disjunctsIn}
+use Rattle.packed.proofs.Sets.{in-length}
 use Rattle.sets.proofs.insertion_point.Statement.{statement}
 use Rattle.sets.proofs.insertion_point.Tie as tie
 

@@ -6,8 +6,8 @@ use native.Mathlib.Omega.{arith}
 use borrow.Author.Needs.{needs}
 use lib.ListN.{set}
 use Rattle.laws.proofs.Turns.{Moved, moved-none, moved-more}
-use Rattle.sets.specs.Sets.{disjunctsIn}
-use Rattle.sets.proofs.Sets.{in-length}
+use Rattle.packed.specs.Sets.{disjunctsIn}
+use Rattle.packed.proofs.Sets.{in-length}
 use Rattle.sets.proofs.shift.Statement.{statement}
 use Rattle.sets.proofs.shift.Tie as tie
 

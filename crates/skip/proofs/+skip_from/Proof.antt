@@ -17,8 +17,8 @@ use Rattle.bounded.proofs.Skips.{few-full}
 use Rattle.constraint.specs.Constraints.{viewDemand, demandsIn}
 use Rattle.constraint.proofs.Views.{emptyDemand, demands-end, demand-below}
 use Rattle.disjunct.specs.Disjuncts.{viewDisjunct}
-use Rattle.sets.specs.Sets.{disjunctsIn, grownIn}
-use Rattle.sets.proofs.Sets.{in-grown, in-full}
+use Rattle.packed.specs.Sets.{disjunctsIn, grownIn}
+use Rattle.packed.proofs.Sets.{in-grown, in-full}
 use Rattle.skip.proofs.Demands.{given, given-none, given-one, given-ahead}
 use Rattle.skip.proofs.Growth.{step-ascending, step-full}
 use Rattle.skip.proofs.skip_from.Reads as skip-from

@@ -9,8 +9,8 @@ use lib.ListN.{length, take}
 use Rattle.laws.proofs.Lists.{taken-none}
 use Rattle.bounded.specs.Bounded.{pick}
 use Rattle.disjunct.specs.Disjuncts.{viewDisjunct}
-use Rattle.sets.specs.Sets.{disjunctsIn}
-use Rattle.sets.proofs.Sets.{in-length}
+use Rattle.packed.specs.Sets.{disjunctsIn}
+use Rattle.packed.proofs.Sets.{in-length}
 use Rattle.skip.proofs.Picks.{ahead, ahead-picked, ahead-passed, put-behind}
 use Rattle.skip.proofs.label.Statement.{statement}
 use Rattle.skip.proofs.label.Tie as tie

@@ -15,8 +15,8 @@ use Rattle.bounded.specs.Bounded.{growFew, skipped}
 use Rattle.bounded.proofs.Skips.{few-append, skipped-grow}
 use Rattle.constraint.specs.Constraints.{viewConstraint}
 use Rattle.disjunct.specs.Disjuncts.{viewDisjunct}
-use Rattle.sets.specs.Sets.{disjunctsIn}
-use Rattle.sets.proofs.Sets.{in-length, few-in, in-grown, in-full}
+use Rattle.packed.specs.Sets.{disjunctsIn}
+use Rattle.packed.proofs.Sets.{in-length, few-in, in-grown, in-full}
 use Rattle.skip.proofs.Growth.{step-grown, step-ascending, step-full}
 use Rattle.skip.proofs.skip_by.Statement.{statement}
 use Rattle.skip.proofs.skip_by.Tie as tie

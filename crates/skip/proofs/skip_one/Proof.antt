@@ -5,7 +5,7 @@ use lib.ListN.{take}
 use Rattle.laws.specs.Sets.{grown}
 use Rattle.bounded.specs.Bounded.{growFew}
 use Rattle.disjunct.specs.Disjuncts.{viewDisjunct}
-use Rattle.sets.specs.Sets.{disjunctsIn}
+use Rattle.packed.specs.Sets.{disjunctsIn}
 use Rattle.skip.proofs.Demands.{skip-met, skip-kept, kept-one}
 use Rattle.skip.proofs.skip_one.Statement.{statement}
 use Rattle.skip.proofs.skip_one.Tie as tie

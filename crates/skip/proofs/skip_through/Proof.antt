@@ -16,8 +16,8 @@ use Rattle.bounded.specs.Bounded.{skippedThrough}
 use Rattle.bounded.proofs.Skips.{through-none, through-full, through-grown, through-never, skipped-sound}
 use Rattle.constraint.specs.Constraints.{viewConstraint, noConstraint}
 use Rattle.constraint.proofs.Views.{never-view}
-use Rattle.sets.specs.Sets.{disjunctsIn}
-use Rattle.sets.proofs.Sets.{in-grown, in-full}
+use Rattle.packed.specs.Sets.{disjunctsIn}
+use Rattle.packed.proofs.Sets.{in-grown, in-full}
 use Rattle.skip.proofs.Words.{room-in}
 use Rattle.skip.proofs.skip_through.Statement.{statement}
 use Rattle.skip.proofs.skip_through.Tie as tie

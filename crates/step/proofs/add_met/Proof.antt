@@ -8,8 +8,8 @@ use Rattle.laws.proofs.Turns.{counted-few}
 use Rattle.meaning.specs.Labels.{compareDisjuncts}
 use Rattle.constraint.specs.Constraints.{viewConstraint}
 use Rattle.disjunct.specs.Disjuncts.{viewDisjunct}
-use Rattle.sets.specs.Sets.{disjunctsIn}
-use Rattle.sets.proofs.Sets.{in-grown}
+use Rattle.packed.specs.Sets.{disjunctsIn}
+use Rattle.packed.proofs.Sets.{in-grown}
 use Rattle.step.proofs.Meetings.{met-yes, met-no}
 use Rattle.step.proofs.add_met.Statement.{statement}
 use Rattle.step.proofs.add_met.Tie as tie

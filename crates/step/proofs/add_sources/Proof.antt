@@ -6,7 +6,7 @@ use native.Mathlib.Omega.{arith}
 use lib.ListN.{take}
 use Rattle.constraint.specs.Constraints.{viewConstraint}
 use Rattle.disjunct.specs.Disjuncts.{viewDisjunct}
-use Rattle.sets.specs.Sets.{disjunctsIn}
+use Rattle.packed.specs.Sets.{disjunctsIn}
 use Rattle.step.proofs.Sources.{Growing, growing-none, growing-all, growing-passed, growing-more, growing-full}
 use borrow.Author.Needs.{needs}
 use Rattle.step.proofs.add_sources.Statement.{statement}

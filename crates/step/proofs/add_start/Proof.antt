@@ -10,7 +10,7 @@ use Rattle.bounded.specs.Bounded.{withStart, metList, metSet}
 use Rattle.constraint.specs.Constraints.{viewConstraint}
 use Rattle.disjunct.specs.Disjuncts.{viewDisjunct}
 use Rattle.disjunct.proofs.Disjuncts.{free-view}
-use Rattle.sets.proofs.Sets.{grown-in}
+use Rattle.packed.proofs.Sets.{grown-in}
 use Rattle.step.proofs.Meetings.{met-start, met-no-start, start-few}
 use Rattle.step.proofs.add_start.Statement.{statement}
 use Rattle.step.proofs.add_start.Tie as tie

@@ -6,8 +6,8 @@ use Rattle.laws.specs.Sets.{within}
 use Rattle.bounded.specs.Bounded.{pick, withStart, metSet}
 use Rattle.constraint.specs.Constraints.{viewConstraint}
 use Rattle.constraint.proofs.Views.{never-view}
-use Rattle.sets.specs.Sets.{disjunctsIn, grownIn}
-use Rattle.sets.proofs.Sets.{in-grown}
+use Rattle.packed.specs.Sets.{disjunctsIn, grownIn}
+use Rattle.packed.proofs.Sets.{in-grown}
 use Rattle.step.proofs.Meetings.{grown-started, met-ascending, none-met}
 use borrow.Author.Needs.{needs}
 use Rattle.step.proofs.step_set.Statement.{statement}

@@ -14,8 +14,8 @@ use Rattle.bounded.proofs.RowSets.{free-none}
 use Rattle.constraint.specs.Constraints.{viewConstraint}
 use Rattle.disjunct.specs.Disjuncts.{viewDisjunct}
 use Rattle.disjunct.proofs.Disjuncts.{free-view}
-use Rattle.sets.specs.Sets.{disjunctsIn}
-use Rattle.sets.proofs.Sets.{in-length}
+use Rattle.packed.specs.Sets.{disjunctsIn}
+use Rattle.packed.proofs.Sets.{in-length}
 use Rattle.collect.proofs.Turns.{ahead, ahead-all, ahead-none, ahead-next, free-more, starts, starts-not}
 use Rattle.unbound.proofs.free_at.Statement.{statement}
 use Rattle.unbound.proofs.free_at.Tie as tie

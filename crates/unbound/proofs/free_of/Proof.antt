@@ -10,7 +10,7 @@ use Rattle.bounded.specs.Bounded.{pick, withStart, freeIn}
 use Rattle.bounded.proofs.RowSets.{free-none, free-never}
 use Rattle.constraint.specs.Constraints.{viewConstraint}
 use Rattle.constraint.proofs.Views.{never-view}
-use Rattle.sets.specs.Sets.{disjunctsIn}
+use Rattle.packed.specs.Sets.{disjunctsIn}
 use Rattle.unbound.proofs.free_of.Statement.{statement}
 use Rattle.unbound.proofs.free_of.Tie as tie
 

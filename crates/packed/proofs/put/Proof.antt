@@ -1,4 +1,4 @@
--- `sets::put` meets its contract: the four entries written are those of the disjunct.
+-- `packed::put` meets its contract: the four entries written are those of the disjunct.
 use mathlib.Core.Path.{_≡_, ap, _∙_}
 use Prim.Native.Nat.{_+_, _*_}
 use lib.ListN.{length, getD, set}
@@ -6,9 +6,9 @@ use borrow.Author.Needs.{needs}
 use Rattle.laws.proofs.Arrays.{map-length}
 use Rattle.slot.specs.Slots.{viewSlot}
 use Rattle.disjunct.proofs.Slots.{noSlot}
-use Rattle.sets.proofs.Views.{write-four}
-use Rattle.sets.proofs.put.Statement.{statement}
-use Rattle.sets.proofs.put.Tie as tie
+use Rattle.packed.proofs.Views.{write-four}
+use Rattle.packed.proofs.put.Statement.{statement}
+use Rattle.packed.proofs.put.Tie as tie
 
 mul-j : tie.Need-mul-j
 mul-j c = search needs

@@ -8,7 +8,7 @@ use Rattle.laws.specs.Sets.{Grown, full, grown}
 use Rattle.meaning.specs.Labels.{Held}
 use Rattle.meaning.specs.Room.{heldLimit}
 use Rattle.bounded.specs.Bounded.{heldOf}
-use Rattle.sets.specs.Sets.{disjunctsIn}
+use Rattle.packed.specs.Sets.{disjunctsIn}
 
 -- the first n positions and disjuncts
 unfoldable pub heldIn : ℕ → (at words : List ℕ) → List Held

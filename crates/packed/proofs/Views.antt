@@ -13,8 +13,8 @@ use Rattle.slot.proofs.Slots.{view-free, view-taken}
 use Rattle.disjunct.specs.declared.Disjunct.{Disjunct}
 use Rattle.disjunct.specs.Disjuncts.{viewDisjunct}
 use Rattle.disjunct.proofs.Slots.{noSlot}
-use Rattle.sets.specs.Sets.{entryAt, entriesIn, disjunctsIn}
-use Rattle.sets.proofs.Words.{six, entry-bound, entry-free, store-bound, store-free, disjuncts-put}
+use Rattle.packed.specs.Sets.{entryAt, entriesIn, disjunctsIn}
+use Rattle.packed.proofs.Words.{six, entry-bound, entry-free, store-bound, store-free, disjuncts-put}
 
 -- `read_slot`: a value, or so many of the six words behind the count
 pub read-bound : (w : List ℕ) (at : ℕ) (r : Slot) → at + 7 ≤ length w → getD w at 0 ≡ 7 → r ≡ slotOf (bound (getD w (at + 1) 0)) → viewSlot r ≡ entryAt w at

@@ -1,11 +1,11 @@
--- `sets::put_slot` meets its contract: the words written are those of the entry, and no others are.
+-- `packed::put_slot` meets its contract: the words written are those of the entry, and no others are.
 use mathlib.Core.Path.{_≡_}
 use native.Mathlib.Omega.{arith}
 use lib.ListN.{length, length-set}
 use borrow.Author.Needs.{needs}
-use Rattle.sets.proofs.Views.{write-bound, write-free}
-use Rattle.sets.proofs.put_slot.Statement.{statement}
-use Rattle.sets.proofs.put_slot.Tie as tie
+use Rattle.packed.proofs.Views.{write-bound, write-free}
+use Rattle.packed.proofs.put_slot.Statement.{statement}
+use Rattle.packed.proofs.put_slot.Tie as tie
 
 mul-at : tie.Need-mul-at
 mul-at c = search needs

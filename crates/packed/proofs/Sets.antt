@@ -11,9 +11,9 @@ use Rattle.laws.specs.Sets.{full, grown}
 use Rattle.laws.proofs.Turns.{counted, counted-few, counted-over, few-counted, over-counted}
 use Rattle.meaning.specs.Labels.{Disjunct, exclusions}
 use Rattle.meaning.specs.Room.{fewExclusions}
-use Rattle.sets.specs.Sets.{entryAt, disjunctsIn, grownIn}
-use Rattle.sets.proofs.Words.{disjuncts-at, entry-few}
-pub use Rattle.sets.proofs.Words.{in-length}
+use Rattle.packed.specs.Sets.{entryAt, disjunctsIn, grownIn}
+use Rattle.packed.proofs.Words.{disjuncts-at, entry-few}
+pub use Rattle.packed.proofs.Words.{in-length}
 
 pub few-in : (w : List ℕ) (i : ℕ) → i < 128 → fewExclusions (getD (disjunctsIn w) i []) ≡ true
 few-in w i h =

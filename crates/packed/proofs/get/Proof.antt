@@ -1,11 +1,11 @@
--- `sets::get` meets its contract: the four entries are those of the disjunct.
+-- `packed::get` meets its contract: the four entries are those of the disjunct.
 use mathlib.Core.Path.{sym, ap, ap₂, _∙_}
 use mathlib.Core.List.{[], _∷_}
 use borrow.Author.Needs.{needs}
-use Rattle.sets.proofs.Words.{disjuncts-at}
-use Rattle.sets.proofs.Views.{view-four}
-use Rattle.sets.proofs.get.Statement.{statement}
-use Rattle.sets.proofs.get.Tie as tie
+use Rattle.packed.proofs.Words.{disjuncts-at}
+use Rattle.packed.proofs.Views.{view-four}
+use Rattle.packed.proofs.get.Statement.{statement}
+use Rattle.packed.proofs.get.Tie as tie
 
 mul-at : tie.Need-mul-at
 mul-at c = search needs

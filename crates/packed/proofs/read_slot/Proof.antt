@@ -1,9 +1,9 @@
--- `sets::read_slot` meets its contract: the seven words are those of the entry.
+-- `packed::read_slot` meets its contract: the seven words are those of the entry.
 use native.Mathlib.Omega.{arith}
 use borrow.Author.Needs.{needs}
-use Rattle.sets.proofs.Views.{read-bound, read-free}
-use Rattle.sets.proofs.read_slot.Statement.{statement}
-use Rattle.sets.proofs.read_slot.Tie as tie
+use Rattle.packed.proofs.Views.{read-bound, read-free}
+use Rattle.packed.proofs.read_slot.Statement.{statement}
+use Rattle.packed.proofs.read_slot.Tie as tie
 
 mul-code : tie.Need-mul-code
 mul-code c = search needs

@@ -15,7 +15,7 @@ use lib.Seq.{sets, ext-getD, getD-set-same, getD-set-other, length-sets}
 use borrow.Author.Tests.{ne-eqb}
 use Rattle.laws.specs.Lists.{numbers}
 use Rattle.meaning.specs.Labels.{Entry, bound, free, Disjunct, exclusions}
-use Rattle.sets.specs.Sets.{entryAt, entriesIn, disjunctsIn}
+use Rattle.packed.specs.Sets.{entryAt, entriesIn, disjunctsIn}
 use Rattle.laws.proofs.Arrays.{length-of, getD-of, maps-agree, part-at, getD-sets-same, getD-sets-other}
 
 -- an entry by its count, its value and its exclusions

@@ -1,3 +1,0 @@
--- A set of disjuncts in lent words (Sets), and what is held, positions beside disjuncts (Held).
-pub mod Sets
-pub mod Held
