@@ -32,7 +32,7 @@ use Rattle.book.specs.Books.{reading, readingFor, bookFor, viewBook}
 use Rattle.state.specs.declared.State.{State}
 use Rattle.state.specs.States.{stateOf, heldFirst, viewState}
 use Rattle.tally.specs.Tallies.{capped, tallied}
-use Rattle.writer.specs.RowBytes.{wordBytes, rowBytes}
+use Rattle.row.specs.RowBytes.{wordBytes, rowBytes}
 use Rattle.sound.specs.Soundness.{symbolCounts, bookCounts, bookSound, slotCounts, stateCounts, stateSound}
 use Rattle.calls.specs.Calls.{freshState, rowsBy, stateBy, leavesFreeBy, roomBy, unsound, outOfForm, tooMany, noRoom, noSpace}
 use Rattle.calls.specs.Calls.{answerTo, taken, bufferAfter}

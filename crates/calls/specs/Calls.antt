@@ -19,7 +19,7 @@ use Rattle.book.specs.Books.{viewBook}
 use Rattle.state.specs.declared.State.{State}
 use Rattle.state.specs.States.{stateOf, heldFirst, viewState}
 use Rattle.sound.specs.Soundness.{bookSound, stateSound}
-use Rattle.writer.specs.RowBytes.{rowSize, rowBytes}
+use Rattle.row.specs.RowBytes.{rowSize, rowBytes}
 use Rattle.tally.specs.declared.Tally.{Tally}
 use Rattle.tally.specs.Tallies.{tallied}
 use Rattle.calls.specs.Answers.{Check, firstOf}

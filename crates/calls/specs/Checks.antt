@@ -19,7 +19,7 @@ use Rattle.book.specs.declared.Book.{Book}
 use Rattle.book.specs.Books.{viewBook}
 use Rattle.state.specs.declared.State.{State}
 use Rattle.state.specs.States.{heldFirst}
-use Rattle.writer.specs.RowBytes.{rowSize}
+use Rattle.row.specs.RowBytes.{rowSize}
 use Rattle.sound.specs.Soundness.{bookSound, stateSound}
 
 module _ (b : Book) (s : State) (bytes : Bytes) where

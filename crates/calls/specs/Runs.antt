@@ -18,7 +18,7 @@ use Rattle.form.specs.Text.{Bytes, isBytes}
 use Rattle.record.specs.Records.{isRecord, eventIn}
 use Rattle.book.specs.declared.Book.{Book}
 use Rattle.state.specs.declared.State.{State}
-use Rattle.writer.specs.RowBytes.{rowSize, numberSize, rowBytes}
+use Rattle.row.specs.RowBytes.{rowSize, numberSize, rowBytes}
 use Rattle.tally.specs.declared.Tally.{Tally}
 use Rattle.tally.specs.Tallies.{tallied}
 use Rattle.calls.specs.Calls.{isAccepted, taken, bufferAfter, freshState}

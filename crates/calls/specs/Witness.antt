@@ -7,7 +7,7 @@ use Rattle.pattern.specs.Regex.{Regex, lit, cat, plus}
 use Rattle.meaning.specs.Events.{names}
 use Rattle.meaning.specs.Meaning.{Tracematch}
 use Rattle.form.specs.Text.{Bytes, ascii, Declarations, tracematchOf}
-use Rattle.writer.specs.RowBytes.{rowSize}
+use Rattle.row.specs.RowBytes.{rowSize}
 use Rattle.book.specs.Books.{reading}
 use Rattle.calls.specs.Answers.{numberOf}
 use Rattle.calls.specs.Runs.{Call, event, Made, runOf, acceptedIn}

@@ -30,7 +30,7 @@ use Rattle.form.specs.Form.{Form}
 use Rattle.parsing.proofs.Accepted.{form-proper}
 use Rattle.record.specs.Records.{isRecord, eventIn}
 use Rattle.book.specs.Books.{reading}
-use Rattle.writer.specs.RowBytes.{rowSize}
+use Rattle.row.specs.RowBytes.{rowSize}
 use Rattle.calls.specs.Answers.{numberOf}
 use Rattle.calls.specs.Calls.{taken}
 use Rattle.calls.specs.Runs.{Call, Made, Lent, allBytes, runOf, traceOf, Within, heldFrom, heldAfter}

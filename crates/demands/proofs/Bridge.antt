@@ -36,7 +36,7 @@ use Rattle.book.proofs.Bench.{fields, whole, names-inside}
 use Rattle.state.specs.States.{stateOf, heldFirst, viewState}
 use Rattle.state.proofs.States.{view-state}
 use Rattle.sound.specs.Soundness.{symbolCounts, namePlaced, bookCounts, bookSound, stateSound}
-use Rattle.writer.specs.RowBytes.{rowSize}
+use Rattle.row.specs.RowBytes.{rowSize}
 use Rattle.calls.specs.declared.EventAnswer.{EventAnswer}
 use Rattle.calls.specs.declared.EventAnswer.the-variants.{Accepted, OutOfForm, TooMany, NoRoom, NoSpace}
 use Rattle.calls.specs.Runs.{Lent, Made, wasAccepted}

@@ -30,7 +30,7 @@ use Rattle.book.specs.Books.{reading}
 use Rattle.state.specs.declared.State.{State as Struct}
 use Rattle.state.specs.States.{stateOf}
 use Rattle.tally.specs.Tallies.{tallied}
-use Rattle.writer.specs.RowBytes.{rowSize, rowBytes}
+use Rattle.row.specs.RowBytes.{rowSize, rowBytes}
 use Rattle.calls.specs.declared.EventAnswer.{EventAnswer}
 use Rattle.calls.specs.declared.EventAnswer.the-variants.{Accepted, OutOfForm, TooMany, NoRoom, NoSpace}
 use Rattle.calls.specs.declared.Taken.{Taken}

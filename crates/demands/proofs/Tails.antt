@@ -11,8 +11,8 @@ use Rattle.laws.specs.Parts.{front, splice, pad}
 use Rattle.laws.proofs.Parts.{pad-length}
 use Rattle.meaning.specs.Events.{Valuation}
 use Rattle.form.specs.Text.{Bytes}
-use Rattle.writer.specs.RowBytes.{rowSize, numberSize, wordBytes, rowBytes}
-use Rattle.writer.proofs.RowBytes.{gather-length, word-length}
+use Rattle.row.specs.RowBytes.{rowSize, numberSize, wordBytes, rowBytes}
+use Rattle.row.proofs.RowBytes.{gather-length, word-length}
 
 -- variable count, three zeros, four values
 unfoldable pub tail : ℕ → Valuation → Bytes

@@ -29,7 +29,7 @@ use Rattle.book.specs.Answers.{answerOf}
 use Rattle.book.specs.Books.{reading, readingFor, bookFor, emptyBook, viewBook}
 use Rattle.state.specs.States.{stateOf, heldFirst, viewState}
 use Rattle.sound.specs.Soundness.{symbolCounts, bookCounts, bookSound, slotCounts, stateCounts, stateSound}
-use Rattle.writer.specs.RowBytes.{wordBytes, rowBytes}
+use Rattle.row.specs.RowBytes.{wordBytes, rowBytes}
 use Rattle.calls.specs.Calls.{freshState, rowsBy, stateBy, leavesFreeBy, roomBy, unsound, outOfForm, tooMany, noRoom, noSpace, answerTo, taken, bufferAfter}
 use Rattle.tally.specs.Tallies.{capped, tallied}
 use Rattle.calls.specs.Answers.{numberOf}

@@ -6,7 +6,7 @@ use native.Mathlib.Omega.{arith}
 use borrow.Author.Tests.{leb-true, le-leb, lt-leb}
 use lib.Dec.{leb}
 use Rattle.laws.proofs.Lists.{same-test}
-use Rattle.writer.specs.RowBytes.{rowSize}
+use Rattle.row.specs.RowBytes.{rowSize}
 
 pub fits-behind : (size place rows : ℕ) → place ≤ size → leb rows ((size - place) / rowSize) ≡ leb (place + rowSize * rows) size
 fits-behind size place rows h =

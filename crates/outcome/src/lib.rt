@@ -15,7 +15,7 @@ ghost use Rattle.laws.specs.Parts.{splice};
 ghost use Rattle.meaning.specs.Limits.{variableLimit};
 ghost use Rattle.bounded.specs.Bounded.{rowLimit};
 ghost use Rattle.rows.specs.Valuations.{valuationsIn};
-ghost use Rattle.writer.specs.RowBytes.{rowSize, rowBytes};
+ghost use Rattle.row.specs.RowBytes.{rowSize, rowBytes};
 ghost use Rattle.tally.specs.Tallies.{tallied};
 ghost use Rattle.calls.specs.declared.EventAnswer.the-variants.{Accepted, NoSpace};
 

@@ -22,8 +22,8 @@ use Rattle.state.specs.States.{stateOf, viewState}
 use Rattle.sound.specs.Soundness.{bookSound}
 use Rattle.rows.specs.Valuations.{valuationsIn}
 use Rattle.rows.proofs.Valuations as Words
-use Rattle.writer.specs.RowBytes.{rowSize, rowBytes}
-use Rattle.writer.proofs.RowBytes.{row-wide}
+use Rattle.row.specs.RowBytes.{rowSize, rowBytes}
+use Rattle.row.proofs.RowBytes.{row-wide}
 use Rattle.tally.specs.declared.Tally.{Tally}
 use Rattle.tally.specs.Tallies.{tallied}
 use Rattle.calls.specs.Answers.{numberOf}

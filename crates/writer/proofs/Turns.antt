@@ -12,8 +12,8 @@ use Rattle.meaning.specs.Events.{Valuation}
 use Rattle.bounded.specs.Bounded.{rowLimit}
 use Rattle.rows.specs.Valuations.{valuationsIn}
 use Rattle.rows.proofs.Valuations.{in-length, wide-in}
-use Rattle.writer.specs.RowBytes.{rowBytes}
-use Rattle.writer.proofs.RowBytes.{gather-length, gather-next, row-length}
+use Rattle.row.specs.RowBytes.{rowBytes}
+use Rattle.row.proofs.RowBytes.{gather-length, gather-next, row-length}
 use Rattle.writer.proofs.Fronts.{front-append}
 
 module _ (number variables : ℕ) (w : List ℕ) where

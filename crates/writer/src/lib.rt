@@ -1,5 +1,5 @@
 // The bytes of rows, written into the lent buffer from a given place on. For the event call.
-use rows::Valuation;
+pub use row::ROW;
 use rows::Words;
 ghost use mathlib.Core.Path.{_≡_};
 ghost use Prim.Native.Nat.{_+_, _*_, _≤_};
@@ -9,47 +9,7 @@ ghost use Rattle.laws.specs.Parts.{front, splice};
 ghost use Rattle.meaning.specs.Limits.{variableLimit};
 ghost use Rattle.bounded.specs.Bounded.{rowLimit};
 ghost use Rattle.rows.specs.Valuations.{valuationsIn};
-ghost use Rattle.writer.specs.RowBytes.{rowSize, rowBytes};
-
-// "Row, 24 bytes, no header"
-pub const ROW: usize = 24;
-
-// One row: the event number, the variable count, three zeros and four values, little-endian.
-fn row_bytes(number: u32, variables: usize, x: Valuation) -> [u8; ROW]
-    requires { ⌜ variables ≤ variableLimit ⌝ }
-    ensures { λ r. ⌜ r ≡ rowBytes number variables x ⌝ }
-{
-    let a = x[0];
-    let b = x[1];
-    let c = x[2];
-    let d = x[3];
-    [
-        (number % 256) as u8,
-        (number / 256 % 256) as u8,
-        (number / 65536 % 256) as u8,
-        (number / 16777216 % 256) as u8,
-        (variables % 256) as u8,
-        0,
-        0,
-        0,
-        (a % 256) as u8,
-        (a / 256 % 256) as u8,
-        (a / 65536 % 256) as u8,
-        (a / 16777216 % 256) as u8,
-        (b % 256) as u8,
-        (b / 256 % 256) as u8,
-        (b / 65536 % 256) as u8,
-        (b / 16777216 % 256) as u8,
-        (c % 256) as u8,
-        (c / 256 % 256) as u8,
-        (c / 65536 % 256) as u8,
-        (c / 16777216 % 256) as u8,
-        (d % 256) as u8,
-        (d / 256 % 256) as u8,
-        (d / 65536 % 256) as u8,
-        (d / 16777216 % 256) as u8,
-    ]
-}
+ghost use Rattle.row.specs.RowBytes.{rowSize, rowBytes};
 
 // One row over the beginning of a part.
 fn put_row(out: &mut [u8], row: [u8; ROW])
@@ -71,7 +31,7 @@ fn put_rows(out: &mut [u8], words: &Words, n: usize, number: u32, variables: usi
     let mut i: usize = 0;
     while i < n {
         let x = rows::get(words, i);
-        let row = row_bytes(number, variables, x);
+        let row = row::row_bytes(number, variables, x);
         let at = ROW * i;
         put_row(&mut out[at..], row);
         i += 1;

@@ -7,7 +7,7 @@ use lib.ListN.{length, take}
 use Rattle.laws.specs.Lists.{gather}
 use Rattle.laws.specs.Parts.{front}
 use Rattle.rows.specs.Valuations.{valuationsIn}
-use Rattle.writer.specs.RowBytes.{rowBytes}
+use Rattle.row.specs.RowBytes.{rowBytes}
 use Rattle.writer.proofs.Fronts.{front-nothing, lent-front}
 use Rattle.writer.proofs.Turns.{rows-next}
 use Rattle.writer.proofs.put_rows.Statement.{statement}

@@ -4,7 +4,7 @@ use borrow.Author.Needs.{needs}
 use lib.ListN.{take}
 use Rattle.laws.specs.Lists.{gather}
 use Rattle.rows.specs.Valuations.{valuationsIn}
-use Rattle.writer.specs.RowBytes.{rowBytes}
+use Rattle.row.specs.RowBytes.{rowBytes}
 use Rattle.writer.proofs.Fronts.{lent-front}
 use Rattle.writer.proofs.write_rows.Statement.{statement}
 use Rattle.writer.proofs.write_rows.Tie as tie

@@ -1,13 +1,13 @@
--- `row_bytes` meets its contract: the four words are their own padding, and a count below 256 is its own byte.
+-- `row::row_bytes` meets its contract: the four words are their own padding, and a count below 256 is its own byte.
 use mathlib.Core.Path.{_≡_}
 use Prim.Native.Nat.{_%_}
 use native.Mathlib.Omega.{arith}
 use borrow.Author.Needs.{needs}
 use lib.ListN.{length}
-use Rattle.writer.specs.RowBytes.{wordBytes, rowBytes}
-use Rattle.writer.proofs.RowBytes.{four-words}
-use Rattle.writer.proofs.row_bytes.Statement.{statement}
-use Rattle.writer.proofs.row_bytes.Tie as tie
+use Rattle.row.specs.RowBytes.{wordBytes, rowBytes}
+use Rattle.row.proofs.RowBytes.{four-words}
+use Rattle.row.proofs.row_bytes.Statement.{statement}
+use Rattle.row.proofs.row_bytes.Tie as tie
 
 returns : tie.Need-returns
 unfolding rowBytes wordBytes

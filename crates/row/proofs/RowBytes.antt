@@ -16,7 +16,7 @@ use Rattle.laws.proofs.Lists.{all-at}
 use Rattle.laws.proofs.Parts.{pad-length, pad-full}
 use Rattle.laws.proofs.Arrays.{by-index}
 use Rattle.meaning.specs.Events.{Valuation}
-use Rattle.writer.specs.RowBytes.{wordBytes, rowBytes}
+use Rattle.row.specs.RowBytes.{wordBytes, rowBytes}
 
 -- lists of n elements each, one after the other
 pub gather-length : {A B : Type 0} (g : A → List B) (n : ℕ) (l : List A) → ((x : A) → List·Memᴰ x l → length (g x) ≡ n) → length (gather g l) ≡ length l * n

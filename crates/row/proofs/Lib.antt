@@ -1,0 +1,2 @@
+-- The bytes of rows, for the function of this crate, the writer and the event call.
+pub mod RowBytes

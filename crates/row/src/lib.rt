@@ -1,0 +1,46 @@
+// The bytes of one row. For the writer of rows.
+use rows::Valuation;
+ghost use mathlib.Core.Path.{_≡_};
+ghost use Prim.Native.Nat.{_≤_};
+ghost use Rattle.meaning.specs.Limits.{variableLimit};
+ghost use Rattle.row.specs.RowBytes.{rowBytes};
+
+// "Row, 24 bytes, no header"
+pub const ROW: usize = 24;
+
+// One row: the event number, the variable count, three zeros and four values, little-endian.
+pub fn row_bytes(number: u32, variables: usize, x: Valuation) -> [u8; ROW]
+    requires { ⌜ variables ≤ variableLimit ⌝ }
+    ensures { λ r. ⌜ r ≡ rowBytes number variables x ⌝ }
+{
+    let a = x[0];
+    let b = x[1];
+    let c = x[2];
+    let d = x[3];
+    [
+        (number % 256) as u8,
+        (number / 256 % 256) as u8,
+        (number / 65536 % 256) as u8,
+        (number / 16777216 % 256) as u8,
+        (variables % 256) as u8,
+        0,
+        0,
+        0,
+        (a % 256) as u8,
+        (a / 256 % 256) as u8,
+        (a / 65536 % 256) as u8,
+        (a / 16777216 % 256) as u8,
+        (b % 256) as u8,
+        (b / 256 % 256) as u8,
+        (b / 65536 % 256) as u8,
+        (b / 16777216 % 256) as u8,
+        (c % 256) as u8,
+        (c / 256 % 256) as u8,
+        (c / 65536 % 256) as u8,
+        (c / 16777216 % 256) as u8,
+        (d % 256) as u8,
+        (d / 256 % 256) as u8,
+        (d / 65536 % 256) as u8,
+        (d / 16777216 % 256) as u8,
+    ]
+}
