@@ -121,6 +121,15 @@ full =
       symbols = span 17 12 ∷ span 46 1 ∷ [];
       tree = cat (star (opt (alt (lit 1) (lit 0)))) (cat (lit 0) (plus (lit 1)));
     })
+    -- no word is reserved
+    ∷ accepts (ascii "vars sym\nsym match 1 sym\nmatch match\n")
+    (record {
+      declared = record { variables = ascii "sym" ∷ []; symbols = line "match" 1 (names 0 ∷ []) ∷ [] };
+      written = ascii "match";
+      variables = span 5 3 ∷ [];
+      symbols = span 13 5 ∷ [];
+      tree = lit 0;
+    })
     -- 16 symbols, z and 0; `|` divides sequences
     ∷ accepts (118 ∷ 97 ∷ 114 ∷ 115 ∷ 10 ∷ (gather numbered fifteen ++ ascii "sym z0 1\nmatch n z0|z a\n"))
     (record {
@@ -155,6 +164,11 @@ variables =
     ∷ refuses (ascii "vars aB\n") 2 5
     ∷ refuses (ascii "vars a_b\n") 2 5
     ∷ refuses (ascii "varsx\n") 2 0
+    -- a byte of no name: CR, NUL, one from 128 on; a tab is no space
+    ∷ refuses (ascii "vars a" ++ (13 ∷ 10 ∷ [])) 2 5
+    ∷ refuses (ascii "vars a" ++ (0 ∷ 10 ∷ [])) 2 5
+    ∷ refuses (ascii "vars a" ++ (128 ∷ 10 ∷ [])) 2 5
+    ∷ refuses (ascii "vars" ++ (9 ∷ 97 ∷ 10 ∷ [])) 2 0
     ∷ []
 
 -- the lines of symbols, and the end
@@ -205,6 +219,7 @@ patterns =
     ∷ refuses (oneText (ascii "()")) 6 20
     ∷ refuses (oneText (ascii "*a")) 6 19
     ∷ refuses (oneText (ascii "a!")) 6 20
+    ∷ refuses (oneText (ascii "a" ++ (0 ∷ []))) 6 20
     ∷ refuses (ascii "vars d\nsym a 1 d\nmatch a d\n") 5 25
     ∷ refuses (oneText (ascii "abcdefghijklm")) 3 19
     ∷ []

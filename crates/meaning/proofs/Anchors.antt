@@ -1,13 +1,14 @@
 -- What the definitions compute, by computation from them alone, so that a wrong one is refused here first, because a fact is false. `starred`:
 -- every starred roast that is an event run comes out as document 01 has it; `on-the-way`, `partial-held`, `mixed-held`, `thrice-held` and `full`
--- are further cases about room and about what is held, `disjuncts-ordered` is their order; `unconcerned` and `exchanged` are cases that the declarative meaning and demand 3 rule
--- out.
+-- are further cases about room and about what is held, `disjuncts-ordered` is their order; `unconcerned` and `exchanged` are cases that the
+-- declarative meaning and demand 3 rule out, `independent` and `crossing` one that demand 3 covers.
 use mathlib.Core.Path.{_≡_, refl}
-use mathlib.Core.Bool.{Bool, true, false, false≢true}
+use mathlib.Core.Bool.{Bool, true, false, _&&_, _||_, false≢true}
 use mathlib.Core.List.{List, [], _∷_, map}
-use Prim.Native.Nat.{ℕ}
+use Prim.Native.Nat.{ℕ, zero, suc, _-_, _<_}
 use native.Mathlib.Omega.{arith}
-use lib.ListN.{replicate}
+use borrow.Author.Tests.{eqb-true}
+use lib.ListN.{getD, replicate}
 use Rattle.laws.specs.Bits.{bit, join, meet, single}
 use Rattle.laws.specs.Lists.{all}
 use Rattle.laws.specs.Order.{ascending}
@@ -18,7 +19,7 @@ use Rattle.meaning.specs.Book.{bookOf, isProper, soundSymbol}
 use Rattle.meaning.specs.Labels.{bound, free, compareDisjuncts, skipBy, sources, stepSet, skipSet, newLabel, newHeld}
 use Rattle.meaning.specs.Room.{setRoom, room}
 use Rattle.meaning.specs.Rows.{rows}
-use Rattle.meaning.specs.Runs.{heldAfter, Pairing, Ordered}
+use Rattle.meaning.specs.Runs.{heldAfter, Pairing, Dependent, Ordered}
 use Rattle.meaning.specs.Starred.{Case, Answer, answers, table, onTheWay, partial, partialCalls, partialHeld}
 use Rattle.meaning.specs.Starred.{mixed, mixedCalls, mixedHeld, thrice, thriceCalls, thriceHeld}
 
@@ -83,3 +84,43 @@ unfolding isValuation holds concerns
 exchanged p e f o =
     let k = o .keeps 0 1 (omega arith) (omega arith) (record { common = 5 ∷ []; valuation = refl; first = refl; second = refl }) in
     omega (arith, e, f, k)
+
+-- "Two events concern a common valuation if some one valuation is concerned by both": a(5) and a(6) do not
+holding : (b : Bool) → ((b && true) || false) ≡ true → b ≡ true
+holding true h = refl
+holding false h = h
+
+pub independent : Dependent once (one 5) (one 6) → ⊥
+unfolding holds concerns
+independent d =
+    let five = eqb-true (getD (d .common) 0 0) 5 (holding _ (d .first)) in
+    let six = eqb-true (getD (d .common) 0 0) 6 (holding _ (d .second)) in
+    omega arith
+
+-- so they may be exchanged
+abbrev swap : Pairing noEvent (one 5 ∷ one 6 ∷ []) (one 6 ∷ one 5 ∷ [])
+swap =
+    record {
+      to = λ i. 1 - i;
+      back = λ i. 1 - i;
+      to-inside = λ i h. omega arith;
+      back-inside = λ i h. omega arith;
+      back-to = λ i h. omega arith;
+      to-back = λ i h. omega arith;
+      same = alike;
+    }
+  where
+    alike : (i : ℕ) → i < 2 → getD (one 6 ∷ one 5 ∷ []) (1 - i) noEvent ≡ getD (one 5 ∷ one 6 ∷ []) i noEvent
+    alike zero h = refl
+    alike (suc zero) h = refl
+    alike (suc (suc i)) h = absurd (omega arith)
+
+pub crossing : Ordered noEvent (λ e. e) once (one 5 ∷ one 6 ∷ []) (one 6 ∷ one 5 ∷ []) swap
+crossing = record { keeps = keeps }
+  where
+    keeps : (i j : ℕ) → i < j → j < 2
+        → Dependent once (getD (one 5 ∷ one 6 ∷ []) i noEvent) (getD (one 5 ∷ one 6 ∷ []) j noEvent) → 1 - i < 1 - j
+    keeps zero (suc zero) h k d = absurd (independent d)
+    keeps zero zero h k d = absurd (omega arith)
+    keeps zero (suc (suc j)) h k d = absurd (omega arith)
+    keeps (suc i) j h k d = absurd (omega arith)

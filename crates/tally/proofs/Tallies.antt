@@ -1,6 +1,6 @@
 -- Document 01: "Answers 9 to 13 to an event add one refused and leave the other two"; "a counter stops at the largest 64-bit value". For the
 -- buyer, beside `refused-stays` of the crate calls.
-use mathlib.Core.Path.{_≡_, _∙_}
+use mathlib.Core.Path.{_≡_, refl, _∙_}
 use Prim.Native.Nat.{ℕ, _+_, _-_, _^_, _≤_, _<_}
 use native.Mathlib.Omega.{arith}
 use native.Mathlib.Nat.{min-eq-left, min-eq-right}
@@ -17,14 +17,20 @@ pub others-stay : (t : Tally) → t .accepted < 2 ^ 64 → t .rows < 2 ^ 64
 unfolding tallied
 others-stay t h k = rw (capped-none (t .accepted) h, capped-none (t .rows) k)
 
--- each counter has just so many more, or stops at the largest 64-bit value
-capped-more : (x n : ℕ) → x + n < 2 ^ 64 → capped x n ≡ x + n
+-- a counter has just so many more, or stops at the largest 64-bit value
+pub capped-more : (x n : ℕ) → x + n < 2 ^ 64 → capped x n ≡ x + n
 unfolding capped
 capped-more x n h = min-eq-left (omega arith)
 
-capped-full : (x n : ℕ) → 2 ^ 64 ≤ x + n → capped x n ≡ 2 ^ 64 - 1
+pub capped-full : (x n : ℕ) → 2 ^ 64 ≤ x + n → capped x n ≡ 2 ^ 64 - 1
 unfolding capped
 capped-full x n h = min-eq-right (omega arith)
+
+-- each counter by itself, whatever the others do
+pub each : (t : Tally) (a f r : ℕ)
+    → (tallied t a f r .accepted ≡ capped (t .accepted) a) × (tallied t a f r .refused ≡ capped (t .refused) f) × (tallied t a f r .rows ≡ capped (t .rows) r)
+unfolding tallied
+each t a f r = (refl, refl, refl)
 
 pub counts : (t : Tally) (a f r : ℕ) → t .accepted + a < 2 ^ 64 → t .refused + f < 2 ^ 64 → t .rows + r < 2 ^ 64
     → tallied t a f r ≡ record { accepted = t .accepted + a; refused = t .refused + f; rows = t .rows + r }
