@@ -25,8 +25,8 @@ use Rattle.bounded.specs.Wide.{wideBook}
 use Rattle.bounded.specs.Bounded.{pick, labelled, appended}
 use Rattle.bounded.proofs.Picks.{label-pick}
 use Rattle.bounded.proofs.Labels.{labelAt, advanced, advanced-full, advanced-all, labelled-at, label-ascending}
-use Rattle.constraint.specs.declared.Constraint.{Constraint}
-use Rattle.constraint.specs.Constraints.{viewConstraint, noConstraint}
+use Rattle.demand.specs.declared.Constraint.{Constraint}
+use Rattle.demand.specs.Constraints.{viewConstraint, noConstraint}
 use Rattle.packed.specs.Sets.{disjunctsIn}
 use Rattle.book.specs.declared.Book.{Book}
 use Rattle.book.specs.Books.{viewBook}

@@ -1,7 +1,7 @@
 // All new labels after an event, or no room: step sets and skip sets joined, position by position. For the event call.
 use book::Book;
-use constraint::Constraint;
 use constraint::Constraints;
+use demand::Constraint;
 use packed::CAPACITY;
 use packed::NO_ROOM;
 use packed::Words;
@@ -22,7 +22,7 @@ ghost use Rattle.meaning.specs.Sound.{soundHeld};
 ghost use Rattle.meaning.specs.Limits.{symbolLimit};
 ghost use Rattle.bounded.specs.Wide.{wideBook};
 ghost use Rattle.bounded.specs.Bounded.{pick, labelled, appended};
-ghost use Rattle.constraint.specs.Constraints.{viewConstraint, noConstraint, Ready};
+ghost use Rattle.demand.specs.Constraints.{viewConstraint, noConstraint, Ready};
 ghost use Rattle.packed.specs.Sets.{disjunctsIn, grownIn};
 ghost use Rattle.book.specs.Books.{viewBook};
 ghost use Rattle.book.specs.Counts.{Counts};

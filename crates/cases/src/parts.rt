@@ -1,11 +1,11 @@
 // Each part of the matcher alone, on fixed inputs: the event record, the disjunct, a set of disjuncts, a set past one symbol, the
 // writer of rows. Counts the results that are right. The event is load(1,7), the constraint "variable 0 is 1, variable 1 is 7".
 use crate::score::Score;
-use constraint::Constraint;
-use constraint::Demand;
+use demand::Constraint;
+use demand::Demand;
 use disjunct::Disjunct;
 ghost use Prim.Native.Nat.{_<_};
-ghost use Rattle.constraint.specs.Constraints.{Ready};
+ghost use Rattle.demand.specs.Constraints.{Ready};
 
 const SET_WORDS: usize = packed::WORDS;
 
@@ -64,19 +64,19 @@ fn demanding(x: u32, y: u32) -> Constraint
 // The free disjunct met with the constraint.
 fn bound() -> Disjunct {
     let d = Disjunct::free();
-    let m = meeting::meet(d, demanding(1, 7));
+    let m = d.meet(demanding(1, 7));
     m.disjunct
 }
 
 fn meetings(s: Score) -> Score {
     let d = Disjunct::free();
-    let m = meeting::meet(d, demanding(1, 7));
+    let m = d.meet(demanding(1, 7));
     let e = m.disjunct;
     let mut t = s.with(m.ok);
     t = t.with_words(e.values(), [1, 7, 0, 0]);
-    let again = meeting::meet(e, demanding(1, 7));
+    let again = e.meet(demanding(1, 7));
     t = t.with(again.ok);
-    let other = meeting::meet(e, demanding(2, 7));
+    let other = e.meet(demanding(2, 7));
     t.with(!other.ok)
 }
 
@@ -94,7 +94,7 @@ fn only_excludes(d: Disjunct, v: usize, x: u32) -> bool
     requires { ⌜ v < 4 ⌝ }
 {
     let f = Disjunct::free();
-    let e = meeting::exclude(f, v, x);
+    let e = f.exclude(v, x);
     e.ok && ordering::order(d, e.disjunct) == 1
 }
 

@@ -21,8 +21,8 @@ use Rattle.meaning.specs.Rows.{rows}
 use Rattle.bounded.specs.Wide.{wideBook}
 use Rattle.bounded.specs.Bounded.{pick, withStart, rowLimit, rowsWith, freeIn, freeRows}
 use Rattle.bounded.proofs.RowSets.{ending, rowsFrom, from-full, from-none, from-next, collected-rows, freeFrom, free-end, free-next, free-all}
-use Rattle.constraint.specs.declared.Constraint.{Constraint}
-use Rattle.constraint.specs.Constraints.{viewConstraint, noConstraint}
+use Rattle.demand.specs.declared.Constraint.{Constraint}
+use Rattle.demand.specs.Constraints.{viewConstraint, noConstraint}
 use Rattle.packed.specs.Sets.{disjunctsIn}
 use Rattle.book.specs.declared.Book.{Book}
 use Rattle.book.specs.Books.{viewBook}

@@ -1,8 +1,8 @@
 // The rows of an event collected from the step sets of its ending positions. For the event call; the test for a row that would leave a
 // variable free is in `unbound`.
 use book::Book;
-use constraint::Constraint;
 use constraint::Constraints;
+use demand::Constraint;
 use disjunct::Disjunct;
 use packed::CAPACITY;
 use packed::Words;
@@ -23,7 +23,7 @@ ghost use Rattle.meaning.specs.Room.{heldLimit};
 ghost use Rattle.meaning.specs.Rows.{compareValuations, rows};
 ghost use Rattle.bounded.specs.Wide.{wideBook};
 ghost use Rattle.bounded.specs.Bounded.{pick, withStart, rowLimit, rowsWith};
-ghost use Rattle.constraint.specs.Constraints.{viewConstraint, noConstraint, Ready};
+ghost use Rattle.demand.specs.Constraints.{viewConstraint, noConstraint, Ready};
 ghost use Rattle.disjunct.specs.Disjuncts.{viewDisjunct};
 ghost use Rattle.packed.specs.Sets.{disjunctsIn};
 ghost use Rattle.book.specs.Books.{viewBook};
@@ -37,7 +37,7 @@ fn add_row(out: &mut rows::Words, m: usize, d: Disjunct, c: Constraint) -> usize
     ensures { λ r. ⌜ rowsGrown r (now (out .exit)) ≡ rowsWith (viewConstraint c) (viewDisjunct d ∷ [])
         (Grown.grown (take m (valuationsIn (now (out .entry))))) ⌝ }
 {
-    let x = meeting::meet(d, c);
+    let x = d.meet(c);
     if x.ok {
         let e = x.disjunct;
         return rows::insert_row(out, m, e.values());

@@ -22,10 +22,10 @@ use Rattle.table.specs.Tables.{viewParameter, viewSymbol}
 use Rattle.table.proofs.Spans.{ahead, ahead-none, ahead-cons}
 use Rattle.record.specs.declared.Event.{Event}
 use Rattle.record.specs.Records.{viewEvent}
-use Rattle.constraint.specs.declared.Demand.{Demand}
-use Rattle.constraint.specs.declared.Constraint.{Constraint}
-use Rattle.constraint.specs.Constraints.{viewDemand, demandsIn, viewConstraint, noDemand, noConstraint, Ready}
-use Rattle.constraint.proofs.Views.{emptyDemand, demand-at, demands-next, demands-end}
+use Rattle.demand.specs.declared.Demand.{Demand}
+use Rattle.demand.specs.declared.Constraint.{Constraint}
+use Rattle.demand.specs.Constraints.{viewDemand, demandsIn, viewConstraint, noDemand, noConstraint, Ready}
+use Rattle.demand.proofs.Views.{emptyDemand, demand-at, demands-next, demands-end}
 
 -- the counts are the lengths of what is counted
 pub matches-counts : (y : Symbol) (e : Event) → length (y .parameters) ≡ 4 → y .count ≤ 4 → length (e .args) ≡ 4 → e .count ≤ 4

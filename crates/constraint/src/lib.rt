@@ -1,4 +1,6 @@
 // The constraint of a symbol on an event: what it demands of the variables, or false. For the matcher's sets.
+pub use demand::Constraint;
+pub use demand::Demand;
 use record::Event;
 use table::PARAMETERS;
 use table::SYMBOLS;
@@ -15,20 +17,7 @@ ghost use Rattle.meaning.specs.Book.{soundParameter};
 ghost use Rattle.meaning.specs.Limits.{variableLimit, symbolLimit, parameterLimit, argumentLimit};
 ghost use Rattle.table.specs.Tables.{viewSymbol};
 ghost use Rattle.record.specs.Records.{viewEvent};
-ghost use Rattle.constraint.specs.Constraints.{noDemand, noConstraint, demandsIn, viewConstraint, Ready};
-
-// "variable equals argument"
-pub struct Demand {
-    pub variable: u32,
-    pub value: u32,
-}
-
-// The first `count` demands, or (ok false) false.
-pub struct Constraint {
-    pub ok: bool,
-    pub count: usize,
-    pub demands: [Demand; PARAMETERS],
-}
+ghost use Rattle.demand.specs.Constraints.{noDemand, noConstraint, demandsIn, viewConstraint, Ready};
 
 // The constraints of all symbols that a book may have.
 pub type Constraints = [Constraint; SYMBOLS];

@@ -13,9 +13,9 @@ use Rattle.meaning.specs.Events as Events
 use Rattle.meaning.specs.Labels.{Entry, Disjunct, entryOf, isFree, exclusions, excluding, exclude, compareDisjuncts, meets, skipOne}
 use Rattle.meaning.specs.Room.{exclusionLimit, heldLimit, fewExclusions}
 use Rattle.bounded.specs.Bounded.{growFew}
-use Rattle.constraint.specs.declared.Constraint.{Constraint}
-use Rattle.constraint.specs.Constraints.{viewDemand, demandsIn, viewConstraint}
-use Rattle.constraint.proofs.Views.{emptyDemand, demands-next}
+use Rattle.demand.specs.declared.Constraint.{Constraint}
+use Rattle.demand.specs.Constraints.{viewDemand, demandsIn, viewConstraint}
+use Rattle.demand.proofs.Views.{emptyDemand, demands-next}
 
 -- the demands of a list whose variable D leaves free, each excluded
 abbrev pub given : Disjunct → List Events.Demand → List Disjunct

@@ -1,6 +1,6 @@
 // The skip set of a position: its old label taken through all symbols in declaration order. For the new labels.
-use constraint::Constraint;
 use constraint::Constraints;
+use demand::Constraint;
 use disjunct::Disjunct;
 use packed::CAPACITY;
 use packed::NO_ROOM;
@@ -18,7 +18,7 @@ ghost use Rattle.meaning.specs.Labels.{entryOf, isFree, exclude, compareDisjunc
 ghost use Rattle.meaning.specs.Room.{heldLimit, fewExclusions};
 ghost use Rattle.meaning.specs.Limits.{symbolLimit};
 ghost use Rattle.bounded.specs.Bounded.{pick, growFew, skipped, skippedThrough};
-ghost use Rattle.constraint.specs.Constraints.{viewConstraint, demandsIn, noConstraint, Ready};
+ghost use Rattle.demand.specs.Constraints.{viewConstraint, demandsIn, noConstraint, Ready};
 ghost use Rattle.disjunct.specs.Disjuncts.{viewDisjunct};
 ghost use Rattle.packed.specs.Sets.{disjunctsIn, grownIn};
 
@@ -54,7 +54,7 @@ fn skip_from(d: Disjunct, c: Constraint, i: usize, out: &mut Words, m: usize) ->
     let x = c.demands[i];
     let v = x.variable as usize;
     if d.is_free(v) {
-        let e = meeting::exclude(d, v, x.value);
+        let e = d.exclude(v, x.value);
         if e.ok {
             let f = e.disjunct;
             let k = sets::insert(out, m, f);
@@ -74,7 +74,7 @@ fn skip_one(d: Disjunct, c: Constraint, out: &mut Words, m: usize) -> usize
     ensures { λ r. ⌜ grownIn r (now (out .exit)) ≡ growFew (skipOne (viewConstraint c) (viewDisjunct d))
         (Grown.grown (take m (disjunctsIn (now (out .entry))))) ⌝ }
 {
-    let x = meeting::meet(d, c);
+    let x = d.meet(c);
     if x.ok {
         return skip_from(d, c, 0, out, m);
     }

@@ -1,5 +1,5 @@
 // The step set of a position: its symbol's constraint met with the disjuncts of its sources. For the new labels and the rows.
-use constraint::Constraint;
+use demand::Constraint;
 use disjunct::Disjunct;
 use packed::CAPACITY;
 use packed::NO_ROOM;
@@ -19,7 +19,7 @@ ghost use Rattle.pattern.specs.Positions.{occurrenceLimit};
 ghost use Rattle.meaning.specs.Labels.{compareDisjuncts};
 ghost use Rattle.meaning.specs.Room.{heldLimit};
 ghost use Rattle.bounded.specs.Bounded.{pick, withStart, metList, metSet};
-ghost use Rattle.constraint.specs.Constraints.{viewConstraint, Ready};
+ghost use Rattle.demand.specs.Constraints.{viewConstraint, Ready};
 ghost use Rattle.disjunct.specs.Disjuncts.{viewDisjunct};
 ghost use Rattle.packed.specs.Sets.{disjunctsIn, grownIn};
 
@@ -63,7 +63,7 @@ fn add_met(out: &mut Words, m: usize, d: Disjunct, c: Constraint) -> usize
     ensures { λ r. ⌜ grownIn r (now (out .exit)) ≡ within heldLimit (insertAll compareDisjuncts
         (metList (viewConstraint c) (viewDisjunct d ∷ [])) (take m (disjunctsIn (now (out .entry))))) ⌝ }
 {
-    let x = meeting::meet(d, c);
+    let x = d.meet(c);
     if x.ok {
         let e = x.disjunct;
         return sets::insert(out, m, e);

@@ -29,8 +29,8 @@ use Rattle.bounded.specs.Bounded.{heldOf, rowLimit, freeRows}
 use Rattle.bounded.proofs.Picks.{held-positions}
 use Rattle.bounded.proofs.Wide.{wide-sound, wide-held, wide-room, wide-rows, wide-free}
 use Rattle.table.specs.Tables.{viewSymbol}
-use Rattle.constraint.specs.declared.Constraint.{Constraint}
-use Rattle.constraint.specs.Constraints.{viewConstraint}
+use Rattle.demand.specs.declared.Constraint.{Constraint}
+use Rattle.demand.specs.Constraints.{viewConstraint}
 use Rattle.packed.specs.Sets.{disjunctsIn}
 use Rattle.packed.proofs.Sets.{in-length, wide-in}
 use Rattle.book.specs.declared.Book.{Book}

@@ -15,7 +15,7 @@ ghost use Rattle.meaning.specs.Limits.{argumentLimit};
 ghost use Rattle.meaning.specs.Sound.{eventLimit};
 ghost use Rattle.bounded.specs.Wide.{wideHeld};
 ghost use Rattle.record.specs.Records.{eventIn, viewEvent};
-ghost use Rattle.constraint.specs.Constraints.{viewConstraint, noConstraint, Ready};
+ghost use Rattle.demand.specs.Constraints.{viewConstraint, noConstraint, Ready};
 ghost use Rattle.book.specs.Books.{viewBook};
 ghost use Rattle.packed.specs.Held.{heldIn};
 ghost use Rattle.state.specs.States.{heldFirst};

@@ -1,7 +1,7 @@
 // The test for a row that would leave a variable free, over the step sets of the ending positions. For the event call.
 use book::Book;
-use constraint::Constraint;
 use constraint::Constraints;
+use demand::Constraint;
 use disjunct::Disjunct;
 use packed::CAPACITY;
 use packed::Words;
@@ -18,7 +18,7 @@ ghost use Rattle.meaning.specs.Room.{heldLimit};
 ghost use Rattle.meaning.specs.Limits.{variableLimit};
 ghost use Rattle.bounded.specs.Wide.{wideBook};
 ghost use Rattle.bounded.specs.Bounded.{pick, withStart, freeIn, freeRows};
-ghost use Rattle.constraint.specs.Constraints.{viewConstraint, noConstraint, Ready};
+ghost use Rattle.demand.specs.Constraints.{viewConstraint, noConstraint, Ready};
 ghost use Rattle.disjunct.specs.Disjuncts.{viewDisjunct};
 ghost use Rattle.packed.specs.Sets.{disjunctsIn};
 ghost use Rattle.book.specs.Books.{viewBook};
@@ -30,7 +30,7 @@ fn free_met(d: Disjunct, c: Constraint, v: usize) -> bool
     requires { ⌜ (v ≤ variableLimit) × Ready c ⌝ }
     ensures { λ r. ⌜ r ≡ freeIn v (viewConstraint c) (viewDisjunct d ∷ []) ⌝ }
 {
-    let x = meeting::meet(d, c);
+    let x = d.meet(c);
     if x.ok {
         let e = x.disjunct;
         return e.leaves_free(v);

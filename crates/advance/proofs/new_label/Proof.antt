@@ -9,7 +9,7 @@ use Rattle.laws.specs.Order.{ascending}
 use Rattle.meaning.specs.Events as Events
 use Rattle.meaning.specs.Labels.{Disjunct, compareDisjuncts}
 use Rattle.bounded.specs.Bounded.{pick, skippedThrough}
-use Rattle.constraint.specs.Constraints.{viewConstraint}
+use Rattle.demand.specs.Constraints.{viewConstraint}
 use Rattle.packed.specs.Sets.{disjunctsIn, grownIn}
 use Rattle.advance.proofs.Labels.{step-ascending, step-over, skip-over, label-none, label-joined}
 use borrow.Author.Needs.{needs}

@@ -6,7 +6,7 @@ use Rattle.laws.specs.Sets.{insert, within}
 use Rattle.meaning.specs.Rows.{compareValuations, valuationOf}
 use Rattle.bounded.specs.Bounded.{rowLimit}
 use Rattle.bounded.proofs.RowSets.{row-met, row-unmet}
-use Rattle.constraint.specs.Constraints.{viewConstraint}
+use Rattle.demand.specs.Constraints.{viewConstraint}
 use Rattle.disjunct.specs.Disjuncts.{viewDisjunct}
 use Rattle.rows.specs.Valuations.{valuationsIn}
 use Rattle.rows.proofs.Valuations.{in-grown}

@@ -9,7 +9,7 @@ use Rattle.meaning.specs.Events.{Event}
 use Rattle.meaning.specs.Rows.{rows}
 use Rattle.bounded.specs.Wide.{wideBook}
 use Rattle.bounded.specs.Bounded.{rowLimit, rowsWith}
-use Rattle.constraint.specs.Constraints.{viewConstraint}
+use Rattle.demand.specs.Constraints.{viewConstraint}
 use Rattle.book.specs.Books.{viewBook}
 use Rattle.packed.specs.Held.{heldIn}
 use Rattle.rows.specs.Valuations.{rowsGrown}

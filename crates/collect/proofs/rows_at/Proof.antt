@@ -13,7 +13,7 @@ use Rattle.meaning.specs.Events.{Valuation}
 use Rattle.meaning.specs.Labels.{freeDisjunct}
 use Rattle.bounded.specs.Bounded.{pick, withStart, rowLimit, rowsWith}
 use Rattle.bounded.proofs.RowSets.{rows-none}
-use Rattle.constraint.specs.Constraints.{viewConstraint}
+use Rattle.demand.specs.Constraints.{viewConstraint}
 use Rattle.disjunct.specs.Disjuncts.{viewDisjunct}
 use Rattle.disjunct.proofs.Disjuncts.{free-view}
 use Rattle.packed.specs.Sets.{disjunctsIn}

@@ -8,8 +8,8 @@ use borrow.Author.Needs.{needs}
 use Rattle.laws.specs.Bits.{bit}
 use Rattle.bounded.specs.Bounded.{pick, withStart, rowsWith}
 use Rattle.bounded.proofs.RowSets.{rows-none, rows-never}
-use Rattle.constraint.specs.Constraints.{viewConstraint}
-use Rattle.constraint.proofs.Views.{never-view}
+use Rattle.demand.specs.Constraints.{viewConstraint}
+use Rattle.demand.proofs.Views.{never-view}
 use Rattle.packed.specs.Sets.{disjunctsIn}
 use Rattle.rows.proofs.Valuations.{in-grown}
 use Rattle.collect.proofs.Turns.{listed}

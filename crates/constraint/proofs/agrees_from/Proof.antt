@@ -9,8 +9,8 @@ use borrow.Author.Needs.{needs}
 use lib.ListN.{length, getD}
 use Rattle.laws.proofs.Arrays.{map-length}
 use Rattle.meaning.specs.Events as Events
-use Rattle.constraint.specs.Constraints.{viewDemand, demandsIn, noDemand}
-use Rattle.constraint.proofs.Views.{emptyDemand, demand-at}
+use Rattle.demand.specs.Constraints.{viewDemand, demandsIn, noDemand}
+use Rattle.demand.proofs.Views.{emptyDemand, demand-at}
 use Rattle.constraint.proofs.Steps.{unequal, equal, apart, agreesFrom, agrees-next, agrees-none}
 use Rattle.constraint.proofs.agrees_from.Statement.{statement}
 use Rattle.constraint.proofs.agrees_from.Tie as tie

@@ -6,7 +6,7 @@ use borrow.Author.Needs.{needs}
 use lib.ListN.{length, drop}
 use Rattle.laws.proofs.Arrays.{map-length}
 use Rattle.meaning.specs.Events as Events
-use Rattle.constraint.specs.Constraints.{demandsIn}
+use Rattle.demand.specs.Constraints.{demandsIn}
 use Rattle.constraint.proofs.Steps.{consistent-next, consistent-none}
 use Rattle.constraint.proofs.consistent.Statement.{statement}
 use Rattle.constraint.proofs.consistent.Tie as tie

@@ -11,7 +11,7 @@ use Rattle.laws.proofs.Lists.{and-true-split}
 use Rattle.meaning.specs.Events as Events
 use Rattle.table.specs.Tables.{viewSymbol}
 use Rattle.record.specs.Records.{viewEvent}
-use Rattle.constraint.proofs.Views.{demands-view}
+use Rattle.demand.proofs.Views.{demands-view}
 use Rattle.constraint.proofs.Steps.{matches-counts, constraint-by}
 use Rattle.constraint.proofs.constraint_of.Statement.{statement}
 use Rattle.constraint.proofs.constraint_of.Tie as tie

@@ -1,7 +1,7 @@
 -- `constraint::never` meets its contract: the flag is off, and no demand is counted.
 use mathlib.Core.Path.{refl}
 use native.Mathlib.Omega.{arith}
-use Rattle.constraint.specs.Constraints.{demandsIn, viewConstraint}
+use Rattle.demand.specs.Constraints.{demandsIn, viewConstraint}
 use Rattle.constraint.proofs.never.Statement.{statement}
 use Rattle.constraint.proofs.never.Tie as tie
 

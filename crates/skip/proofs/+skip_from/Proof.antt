@@ -14,8 +14,8 @@ use Rattle.meaning.specs.Labels.{Disjunct, compareDisjuncts}
 use Rattle.meaning.specs.Room.{heldLimit}
 use Rattle.bounded.specs.Bounded.{growFew}
 use Rattle.bounded.proofs.Skips.{few-full}
-use Rattle.constraint.specs.Constraints.{viewDemand, demandsIn}
-use Rattle.constraint.proofs.Views.{emptyDemand, demands-end, demand-below}
+use Rattle.demand.specs.Constraints.{viewDemand, demandsIn}
+use Rattle.demand.proofs.Views.{emptyDemand, demands-end, demand-below}
 use Rattle.disjunct.specs.Disjuncts.{viewDisjunct}
 use Rattle.packed.specs.Sets.{disjunctsIn, grownIn}
 use Rattle.packed.proofs.Sets.{in-grown, in-full}
@@ -24,7 +24,7 @@ use Rattle.skip.proofs.Growth.{step-ascending, step-full}
 use Rattle.skip.proofs.skip_from.Reads as skip-from
 use Rattle.skip.proofs.skip_from.Kinds as kinds
 use Rattle.skip.proofs.+skip_from.Lts-skip_from as lts
-use Rattle.meeting.proofs.exclude.Reads as exclude
+use Rattle.disjunct.proofs.Disjunct.exclude.Reads as exclude
 use Rattle.disjunct.proofs.Disjunct.is_free.Reads as is-free
 use Rattle.sets.proofs.insert.Reads as insertion
 use Rattle.skip.proofs.+skip_from.{statement}

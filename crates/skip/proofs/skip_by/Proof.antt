@@ -13,7 +13,7 @@ use Rattle.meaning.specs.Labels.{Disjunct, compareDisjuncts, skipOne}
 use Rattle.meaning.specs.Room.{fewExclusions}
 use Rattle.bounded.specs.Bounded.{growFew, skipped}
 use Rattle.bounded.proofs.Skips.{few-append, skipped-grow}
-use Rattle.constraint.specs.Constraints.{viewConstraint}
+use Rattle.demand.specs.Constraints.{viewConstraint}
 use Rattle.disjunct.specs.Disjuncts.{viewDisjunct}
 use Rattle.packed.specs.Sets.{disjunctsIn}
 use Rattle.packed.proofs.Sets.{in-length, few-in, in-grown, in-full}

@@ -14,8 +14,8 @@ use Rattle.meaning.specs.Events as Events
 use Rattle.meaning.specs.Labels.{Disjunct, compareDisjuncts}
 use Rattle.bounded.specs.Bounded.{skippedThrough}
 use Rattle.bounded.proofs.Skips.{through-none, through-full, through-grown, through-never, skipped-sound}
-use Rattle.constraint.specs.Constraints.{viewConstraint, noConstraint}
-use Rattle.constraint.proofs.Views.{never-view}
+use Rattle.demand.specs.Constraints.{viewConstraint, noConstraint}
+use Rattle.demand.proofs.Views.{never-view}
 use Rattle.packed.specs.Sets.{disjunctsIn}
 use Rattle.packed.proofs.Sets.{in-grown, in-full}
 use Rattle.skip.proofs.Words.{room-in}

@@ -6,7 +6,7 @@ use lib.ListN.{length, take, length-take}
 use Rattle.laws.specs.Sets.{insert, within}
 use Rattle.laws.proofs.Turns.{counted-few}
 use Rattle.meaning.specs.Labels.{compareDisjuncts}
-use Rattle.constraint.specs.Constraints.{viewConstraint}
+use Rattle.demand.specs.Constraints.{viewConstraint}
 use Rattle.disjunct.specs.Disjuncts.{viewDisjunct}
 use Rattle.packed.specs.Sets.{disjunctsIn}
 use Rattle.packed.proofs.Sets.{in-grown}

@@ -7,7 +7,7 @@ use Rattle.laws.specs.Sets.{insertAll, within}
 use Rattle.laws.proofs.Turns.{counted-few}
 use Rattle.meaning.specs.Labels.{compareDisjuncts}
 use Rattle.bounded.specs.Bounded.{withStart, metList, metSet}
-use Rattle.constraint.specs.Constraints.{viewConstraint}
+use Rattle.demand.specs.Constraints.{viewConstraint}
 use Rattle.disjunct.specs.Disjuncts.{viewDisjunct}
 use Rattle.disjunct.proofs.Disjuncts.{free-view}
 use Rattle.packed.proofs.Sets.{grown-in}

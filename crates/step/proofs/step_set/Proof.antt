@@ -4,8 +4,8 @@ use lib.ListN.{take}
 use Rattle.laws.specs.Bits.{bit}
 use Rattle.laws.specs.Sets.{within}
 use Rattle.bounded.specs.Bounded.{pick, withStart, metSet}
-use Rattle.constraint.specs.Constraints.{viewConstraint}
-use Rattle.constraint.proofs.Views.{never-view}
+use Rattle.demand.specs.Constraints.{viewConstraint}
+use Rattle.demand.proofs.Views.{never-view}
 use Rattle.packed.specs.Sets.{disjunctsIn, grownIn}
 use Rattle.packed.proofs.Sets.{in-grown}
 use Rattle.step.proofs.Meetings.{grown-started, met-ascending, none-met}

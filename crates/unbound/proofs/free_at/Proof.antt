@@ -11,7 +11,7 @@ use Rattle.laws.specs.Bits.{bit}
 use Rattle.meaning.specs.Labels.{freeDisjunct}
 use Rattle.bounded.specs.Bounded.{pick, withStart, freeIn}
 use Rattle.bounded.proofs.RowSets.{free-none}
-use Rattle.constraint.specs.Constraints.{viewConstraint}
+use Rattle.demand.specs.Constraints.{viewConstraint}
 use Rattle.disjunct.specs.Disjuncts.{viewDisjunct}
 use Rattle.disjunct.proofs.Disjuncts.{free-view}
 use Rattle.packed.specs.Sets.{disjunctsIn}

@@ -5,7 +5,7 @@ use borrow.Author.Needs.{needs}
 use Rattle.laws.specs.Lists.{any}
 use Rattle.meaning.specs.Labels.{isFree}
 use Rattle.bounded.proofs.RowSets.{free-met, free-unmet}
-use Rattle.constraint.specs.Constraints.{viewConstraint}
+use Rattle.demand.specs.Constraints.{viewConstraint}
 use Rattle.disjunct.specs.Disjuncts.{viewDisjunct}
 use Rattle.unbound.proofs.free_met.Statement.{statement}
 use Rattle.unbound.proofs.free_met.Tie as tie

@@ -8,8 +8,8 @@ use borrow.Author.Needs.{needs}
 use Rattle.laws.specs.Bits.{bit}
 use Rattle.bounded.specs.Bounded.{pick, withStart, freeIn}
 use Rattle.bounded.proofs.RowSets.{free-none, free-never}
-use Rattle.constraint.specs.Constraints.{viewConstraint}
-use Rattle.constraint.proofs.Views.{never-view}
+use Rattle.demand.specs.Constraints.{viewConstraint}
+use Rattle.demand.proofs.Views.{never-view}
 use Rattle.packed.specs.Sets.{disjunctsIn}
 use Rattle.unbound.proofs.free_of.Statement.{statement}
 use Rattle.unbound.proofs.free_of.Tie as tie

@@ -1,7 +1,7 @@
 -- Two demands are counted, on the variables 0 and 1.
 use mathlib.Core.Path.{refl}
 use native.Mathlib.Omega.{arith}
-use Rattle.constraint.specs.Constraints.{demandsIn}
+use Rattle.demand.specs.Constraints.{demandsIn}
 use Rattle.cases.proofs.parts.demanding.Statement.{statement}
 use Rattle.cases.proofs.parts.demanding.Tie as tie
 

@@ -6,13 +6,13 @@ use lib.ListN.{set}
 use Rattle.meaning.specs.Events as Events
 use Rattle.meaning.specs.Labels as Labels
 use Rattle.meaning.specs.Labels.{bound, entryOf, admits, bind, meetsAll}
-use Rattle.constraint.specs.declared.Demand.{Demand}
-use Rattle.constraint.specs.Constraints.{viewDemand}
+use Rattle.demand.specs.declared.Demand.{Demand}
+use Rattle.demand.specs.Constraints.{viewDemand}
 use Rattle.slot.specs.declared.Slot.{Slot}
 use Rattle.slot.specs.Slots.{viewSlot, slotOf}
 use Rattle.disjunct.specs.declared.Disjunct.{Disjunct}
 use Rattle.disjunct.specs.Disjuncts.{viewDisjunct}
 use Rattle.disjunct.proofs.Slots.{view-set}
 
 -- one variable bound
 pub bound-view : (d : Disjunct) (x : Demand) (s : Slot) → s ≡ slotOf (bound (x .value))

@@ -1,4 +1,4 @@
--- `meeting::meet` meets its contract: what is bound so far, met with the demands ahead, is the disjunct met with all demands.
+-- `Disjunct::meet` meets its contract: what is bound so far, met with the demands ahead, is the disjunct met with all demands.
 use mathlib.Core.Path.{_≡_, refl, sym, ap, _∙_}
 use mathlib.Core.Bool.{true, false≢true, true≢false}
 use mathlib.Core.List.{_∷_}
@@ -11,14 +11,14 @@ use lib.ListN.{length, drop, getD, length-map, length-set}
 use Rattle.laws.specs.Lists.{all}
 use Rattle.laws.proofs.Lists.{and-true-split}
 use Rattle.meaning.specs.Labels.{admits, meetsAll, metAll, meets, met}
-use Rattle.constraint.specs.Constraints.{viewDemand, demandsIn}
-use Rattle.constraint.proofs.Views.{emptyDemand, demands-view, never-view, demands-next, demands-end}
+use Rattle.demand.specs.Constraints.{viewDemand, demandsIn}
+use Rattle.demand.proofs.Views.{emptyDemand, demands-view, never-view, demands-next, demands-end}
 use Rattle.disjunct.specs.Disjuncts.{viewDisjunct}
 use Rattle.disjunct.proofs.Disjuncts.{sized}
 use Rattle.disjunct.proofs.Slots.{entry-at}
-use Rattle.meeting.proofs.Meeting.{bound-view, meets-first}
-use Rattle.meeting.proofs.meet.Statement.{statement}
-use Rattle.meeting.proofs.meet.Tie as tie
+use Rattle.disjunct.proofs.Meeting.{bound-view, meets-first}
+use Rattle.disjunct.proofs.Disjunct.meet.Statement.{statement}
+use Rattle.disjunct.proofs.Disjunct.meet.Tie as tie
 
 abbrev Inv-loop : tie.InvT-loop
 Inv-loop self c d₀ n i₀ d i =
@@ -32,7 +32,7 @@ abbrev μ-loop : tie.MeasureT-loop
 μ-loop self c d₀ n i₀ d i = n - i
 
 loop-holds : tie.Need-loop-holds Inv-loop μ-loop
-loop-holds c = (omega arith, sized (c .before .args .old) (c .before .good .0) .four, c .before .pre .within, refl, refl)
+loop-holds c = (omega arith, sized (c .before .args .self) (c .before .good .0) .four, c .before .pre .within, refl, refl)
 
 -- the demands ahead, by the first of them
 first : (c : tie.In-loop Inv-loop μ-loop) → let y = c .before .before .before .args .t2 in let i = c .before .loop .i in
@@ -109,7 +109,7 @@ returns c =
     let x = getD (y .demands) (l .i) emptyDemand in
     let h = ap (λ e. admits e (x .value)) (entry-at (l .d) (x .variable)) ∙ sym (c .before .admits .ensures) ∙ c .if2 .left in (
       sym (meets-first (viewDisjunct (l .d)) (first t) h) ∙ l .inv .3
-          ∙ ap (meets (viewDisjunct (s .args .old))) (sym (demands-view y (t .before .before .if1 .taken))),
+          ∙ ap (meets (viewDisjunct (s .args .self))) (sym (demands-view y (t .before .before .if1 .taken))),
       λ e. absurd (false≢true e),
       λ _. refl,
     )
@@ -122,15 +122,15 @@ returns-2 c =
     let D = viewDisjunct (l .d) in
     let e = sym (demands-view y (c .before .before .if1 .taken)) in
     let n = sym (demands-end y (l .i) (c .loop-test .left)) in (
-      ap (meetsAll D) n ∙ l .inv .3 ∙ ap (meets (viewDisjunct (s .args .old))) e,
-      λ _. ap (metAll D) n ∙ l .inv .4 ∙ ap (met (viewDisjunct (s .args .old))) e,
+      ap (meetsAll D) n ∙ l .inv .3 ∙ ap (meets (viewDisjunct (s .args .self))) e,
+      λ _. ap (metAll D) n ∙ l .inv .4 ∙ ap (met (viewDisjunct (s .args .self))) e,
       λ f. absurd (true≢false f),
     )
 
 returns-3 : tie.Need-returns-3 Inv-loop μ-loop
 returns-3 c =
     let a = c .before .args in
-    (ap (meets (viewDisjunct (a .old))) (sym (never-view (a .t2) (c .if1 .left))), λ e. absurd (false≢true e), λ _. refl)
+    (ap (meets (viewDisjunct (a .self))) (sym (never-view (a .t2) (c .if1 .left))), λ e. absurd (false≢true e), λ _. refl)
 
 pub meet-spec : {M : Type 1} → statement M
 meet-spec =

@@ -11,9 +11,9 @@ use borrow.Author.Tests.{ltb-true}
 use Rattle.laws.proofs.Lists.{all-getD}
 use Rattle.laws.proofs.Maps.{mapped-cons, mapped-none}
 use Rattle.meaning.specs.Events as Events
-use Rattle.constraint.specs.declared.Demand.{Demand}
-use Rattle.constraint.specs.declared.Constraint.{Constraint}
-use Rattle.constraint.specs.Constraints.{viewDemand, demandsIn, viewConstraint, noDemand, Ready}
+use Rattle.demand.specs.declared.Demand.{Demand}
+use Rattle.demand.specs.declared.Constraint.{Constraint}
+use Rattle.demand.specs.Constraints.{viewDemand, demandsIn, viewConstraint, noDemand, Ready}
 
 -- the struct that holds no demand
 abbrev pub emptyDemand : Demand

@@ -8,8 +8,8 @@ use lib.ListN.{take}
 use Rattle.laws.specs.Lists.{all}
 use Rattle.meaning.specs.Events as Events
 use Rattle.meaning.specs.Limits.{variableLimit, parameterLimit}
-use Rattle.constraint.specs.declared.Demand.{Demand}
-use Rattle.constraint.specs.declared.Constraint.{Constraint}
+use Rattle.demand.specs.declared.Demand.{Demand}
+use Rattle.demand.specs.declared.Constraint.{Constraint}
 
 abbrev pub viewDemand : Demand → Events.Demand
 viewDemand d = record { variable = d .variable; value = d .value }

@@ -1,14 +1,14 @@
--- `meeting::exclude` meets its contract: one slot with one more exclusion, or the disjunct as it was.
+-- `Disjunct::exclude` meets its contract: one slot with one more exclusion, or the disjunct as it was.
 use mathlib.Core.Path.{refl, sym, ap, _∙_}
 use mathlib.Core.Bool.{false≢true, true≢false}
 use borrow.Author.Needs.{needs}
 use lib.Dec.{leb}
 use lib.ListN.{length, set}
 use Rattle.meaning.specs.Labels.{exclusions, excluding}
 use Rattle.disjunct.specs.Disjuncts.{viewDisjunct}
 use Rattle.disjunct.proofs.Slots.{entry-at, view-set}
-use Rattle.meeting.proofs.exclude.Statement.{statement}
-use Rattle.meeting.proofs.exclude.Tie as tie
+use Rattle.disjunct.proofs.Disjunct.exclude.Statement.{statement}
+use Rattle.disjunct.proofs.Disjunct.exclude.Tie as tie
 
 mul-s : tie.Need-mul-s
 mul-s c = search needs

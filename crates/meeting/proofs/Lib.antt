@@ -1,2 +1,0 @@
--- What a meeting needs: one demand met after another (Meeting).
-pub mod Meeting
