@@ -31,7 +31,7 @@ use Rattle.packed.specs.Sets.{disjunctsIn}
 use Rattle.book.specs.declared.Book.{Book}
 use Rattle.book.specs.Books.{viewBook}
 use Rattle.packed.specs.Held.{heldIn, heldGrown}
-use Rattle.advance.proofs.Held.{held-grown, held-full}
+use Rattle.labels.proofs.Held.{held-grown, held-full}
 
 -- two maps that agree, element by element
 same-at : {A B C : Type 0} (f : A → C) (g : B → C) (k : List A) (l : List B) → map f k ≡ map g l

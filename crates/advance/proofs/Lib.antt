@@ -1,4 +1,2 @@
--- The laws of new labels in lent words.
-pub mod Held
-pub mod Labels
+-- The loop over the positions of a book (Books).
 pub mod Books

@@ -38,7 +38,7 @@ pub fn alternation(s: &[u8], t: Table, depth: usize, used: usize, p: usize) -> P
         return b;
     }
     let y = b.piece;
-    let z = piece::either(x, y);
+    let z = compound::either(x, y);
     Parsed {
         fault: 0,
         place: b.place,
@@ -67,7 +67,7 @@ fn sequence(s: &[u8], t: Table, depth: usize, used: usize, p: usize) -> Parsed
         return b;
     }
     let y = b.piece;
-    let z = piece::sequence(x, y);
+    let z = compound::sequence(x, y);
     Parsed {
         fault: 0,
         place: b.place,

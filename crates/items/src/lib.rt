@@ -58,12 +58,12 @@ fn signed(x: Piece, b: usize) -> Piece
     ensures { λ r. ⌜ ((vars : ℕ → ℕ) (a : Regex) (k : ℕ) → x ≡ pieceOf vars a k → r ≡ pieceOf vars (signedTree b a) k) ⌝ }
 {
     if b == ASTERISK {
-        return piece::star(x);
+        return compound::star(x);
     }
     if b == PLUS_SIGN {
-        return piece::plus(x);
+        return compound::plus(x);
     }
-    piece::optional(x)
+    compound::optional(x)
 }
 
 // An item from its atom: `*`, `+`, `?` behind it.

@@ -39,7 +39,7 @@ pub fn nothing() -> Piece
 }
 
 // The mask where the test passes, and the empty one where it fails.
-fn given(t: bool, m: u32) -> u32
+pub fn given(t: bool, m: u32) -> u32
     ensures { λ r. ⌜ r ≡ Positions.given t m ⌝ }
 {
     if t { m } else { 0 }
@@ -54,7 +54,7 @@ fn has(m: u32, p: usize) -> bool
 }
 
 // Position by position, both sets joined.
-fn joined(a: [u32; POSITIONS], b: [u32; POSITIONS]) -> [u32; POSITIONS]
+pub fn joined(a: [u32; POSITIONS], b: [u32; POSITIONS]) -> [u32; POSITIONS]
     ensures { λ r. ⌜ r ≡ map (λ i. join (getD a i 0) (getD b i 0)) (numbers 0 Positions.occurrenceLimit) ⌝ }
 {
     let mut r = a;
@@ -67,7 +67,7 @@ fn joined(a: [u32; POSITIONS], b: [u32; POSITIONS]) -> [u32; POSITIONS]
 }
 
 // Every position of `ends` followed by those of `begins` too.
-fn linked(follows: [u32; POSITIONS], ends: u32, begins: u32) -> [u32; POSITIONS]
+pub fn linked(follows: [u32; POSITIONS], ends: u32, begins: u32) -> [u32; POSITIONS]
     ensures { λ r. ⌜ r ≡ map (λ i. join (getD follows i 0) (Positions.given (bit (i + 1) ends) begins)) (numbers 0 Positions.occurrenceLimit) ⌝ }
 {
     let mut r = follows;
@@ -98,96 +98,4 @@ pub fn literal(k: usize, a: u32, bound: u32) -> Piece
         symbols: y,
         follows: [0u32; POSITIONS],
     }
-}
-
-// One fragment and the next behind it.
-pub fn sequence(x: Piece, y: Piece) -> Piece
-    requires { ⌜ (x .size ≤ Positions.occurrenceLimit) × (y .size ≤ Positions.occurrenceLimit) ⌝ }
-    ensures { λ r. ⌜ ((vars : ℕ → ℕ) (a b : Regex) (k : ℕ) → x ≡ pieceOf vars a k → y ≡ pieceOf vars b (k + Positions.size a)
-        → r ≡ pieceOf vars (Regex.cat a b) k) ⌝ }
-{
-    let xf = x.follows;
-    let yf = y.follows;
-    let xs = x.symbols;
-    let ys = y.symbols;
-    let begins = given(x.empty, y.begins);
-    let ends = given(y.empty, x.ends);
-    let both = joined(xf, yf);
-    let follows = linked(both, x.ends, y.begins);
-    let symbols = joined(xs, ys);
-    Piece {
-        size: x.size + y.size,
-        empty: x.empty && y.empty,
-        begins: x.begins | begins,
-        ends: ends | y.ends,
-        bound: x.bound | y.bound,
-        symbols: symbols,
-        follows: follows,
-    }
-}
-
-// One fragment or the other.
-pub fn either(x: Piece, y: Piece) -> Piece
-    requires { ⌜ (x .size ≤ Positions.occurrenceLimit) × (y .size ≤ Positions.occurrenceLimit) ⌝ }
-    ensures { λ r. ⌜ ((vars : ℕ → ℕ) (a b : Regex) (k : ℕ) → x ≡ pieceOf vars a k → y ≡ pieceOf vars b (k + Positions.size a)
-        → r ≡ pieceOf vars (Regex.alt a b) k) ⌝ }
-{
-    let xf = x.follows;
-    let yf = y.follows;
-    let xs = x.symbols;
-    let ys = y.symbols;
-    let follows = joined(xf, yf);
-    let symbols = joined(xs, ys);
-    Piece {
-        size: x.size + y.size,
-        empty: x.empty || y.empty,
-        begins: x.begins | y.begins,
-        ends: x.ends | y.ends,
-        bound: x.bound & y.bound,
-        symbols: symbols,
-        follows: follows,
-    }
-}
-
-pub fn star(x: Piece) -> Piece
-    ensures { λ r. ⌜ ((vars : ℕ → ℕ) (a : Regex) (k : ℕ) → x ≡ pieceOf vars a k → r ≡ pieceOf vars (Regex.star a) k) ⌝ }
-{
-    let y = x.symbols;
-    let f = x.follows;
-    let looped = linked(f, x.ends, x.begins);
-    Piece {
-        size: x.size,
-        empty: true,
-        begins: x.begins,
-        ends: x.ends,
-        bound: 0,
-        symbols: y,
-        follows: looped,
-    }
-}
-
-pub fn plus(x: Piece) -> Piece
-    ensures { λ r. ⌜ ((vars : ℕ → ℕ) (a : Regex) (k : ℕ) → x ≡ pieceOf vars a k → r ≡ pieceOf vars (Regex.plus a) k) ⌝ }
-{
-    let y = x.symbols;
-    let f = x.follows;
-    let more = linked(f, x.ends, x.begins);
-    Piece {
-        size: x.size,
-        empty: x.empty,
-        begins: x.begins,
-        ends: x.ends,
-        bound: x.bound,
-        symbols: y,
-        follows: more,
-    }
-}
-
-pub fn optional(x: Piece) -> Piece
-    ensures { λ r. ⌜ ((vars : ℕ → ℕ) (a : Regex) (k : ℕ) → x ≡ pieceOf vars a k → r ≡ pieceOf vars (Regex.opt a) k) ⌝ }
-{
-    let mut r = x;
-    r.empty = true;
-    r.bound = 0;
-    r
 }

@@ -36,7 +36,7 @@ use Rattle.packed.proofs.Sets.{in-length, wide-in}
 use Rattle.book.specs.declared.Book.{Book}
 use Rattle.book.specs.Books.{viewBook}
 use Rattle.packed.specs.Held.{heldIn, heldGrown}
-use Rattle.advance.proofs.Held.{grown-held, full-held}
+use Rattle.labels.proofs.Held.{grown-held, full-held}
 use Rattle.state.specs.declared.State.{State}
 use Rattle.state.specs.States.{stateOf, heldFirst, viewState}
 use Rattle.state.proofs.States.{state-wide}

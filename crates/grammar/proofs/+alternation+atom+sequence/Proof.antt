@@ -30,8 +30,8 @@ use Rattle.items.proofs.failed.Reads as failed-reads
 use Rattle.items.proofs.item.Reads as item-reads
 use Rattle.items.proofs.name_atom.Reads as name-atom-reads
 use Rattle.items.proofs.unfit.Reads as unfit-reads
-use Rattle.piece.proofs.either.Reads as either-reads
-use Rattle.piece.proofs.sequence.Reads as sequence-reads
+use Rattle.compound.proofs.either.Reads as either-reads
+use Rattle.compound.proofs.sequence.Reads as sequence-reads
 use Rattle.text.proofs.is_lower.Reads as is-lower-reads
 use Rattle.text.proofs.peek.Reads as peek-reads
 use Rattle.text.proofs.spaces_end.Reads as spaces-end-reads

@@ -1,13 +1,13 @@
--- `piece::sequence` meets its contract: it makes `sequenceOf`, which is the fragment of `cat a b`.
+-- `compound::sequence` meets its contract: it makes `sequenceOf`, which is the fragment of `cat a b`.
 use mathlib.Core.Path.{_≡_, _∙_, ap₂}
 use mathlib.Core.Bool.{_&&_}
 use mathlib.Core.Logic.{⊎-elim}
 use borrow.Author.Needs.{needs}
 use Rattle.laws.specs.Bits.{join}
 use Rattle.piece.proofs.Laws.{is-joined, is-linked}
-use Rattle.piece.proofs.Wholes.{sequenceOf, sequence-made, sequence-whole}
-use Rattle.piece.proofs.sequence.Statement.{statement}
-use Rattle.piece.proofs.sequence.Tie as tie
+use Rattle.compound.proofs.Wholes.{sequenceOf, sequence-made, sequence-whole}
+use Rattle.compound.proofs.sequence.Statement.{statement}
+use Rattle.compound.proofs.sequence.Tie as tie
 
 given-requires : tie.Need-given-requires
 given-requires c κs = search needs

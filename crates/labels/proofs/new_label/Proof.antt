@@ -1,4 +1,4 @@
--- `advance::new_label` meets its contract: by whether there is room for the step set and for the skip set, and whether anything follows.
+-- `labels::new_label` meets its contract: by whether there is room for the step set and for the skip set, and whether anything follows.
 use mathlib.Core.Path.{_≡_, ap, _∙_}
 use mathlib.Core.List.{List, map}
 use Prim.Native.Nat.{ℕ}
@@ -11,10 +11,10 @@ use Rattle.meaning.specs.Labels.{Disjunct, compareDisjuncts}
 use Rattle.bounded.specs.Bounded.{pick, skippedThrough}
 use Rattle.demand.specs.Constraints.{viewConstraint}
 use Rattle.packed.specs.Sets.{disjunctsIn, grownIn}
-use Rattle.advance.proofs.Labels.{step-ascending, step-over, skip-over, label-none, label-joined}
+use Rattle.labels.proofs.Labels.{step-ascending, step-over, skip-over, label-none, label-joined}
 use borrow.Author.Needs.{needs}
-use Rattle.advance.proofs.new_label.Statement.{statement}
-use Rattle.advance.proofs.new_label.Tie as tie
+use Rattle.labels.proofs.new_label.Statement.{statement}
+use Rattle.labels.proofs.new_label.Tie as tie
 
 -- what the function starts from: the constraints, the positions, the masks and the disjuncts
 abbrev constraints : tie.Start → List Events.Constraint

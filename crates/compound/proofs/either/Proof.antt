@@ -1,13 +1,13 @@
--- `piece::either` meets its contract: it makes `eitherOf`, which is the fragment of `alt a b`.
+-- `compound::either` meets its contract: it makes `eitherOf`, which is the fragment of `alt a b`.
 use mathlib.Core.Path.{_≡_, _∙_, ap₂}
 use mathlib.Core.Bool.{_||_}
 use mathlib.Core.Logic.{⊎-elim}
 use borrow.Author.Needs.{needs}
 use Rattle.laws.specs.Bits.{join, meet}
 use Rattle.piece.proofs.Laws.{joinedOf}
-use Rattle.piece.proofs.Wholes.{eitherOf, either-whole}
-use Rattle.piece.proofs.either.Statement.{statement}
-use Rattle.piece.proofs.either.Tie as tie
+use Rattle.compound.proofs.Wholes.{eitherOf, either-whole}
+use Rattle.compound.proofs.either.Statement.{statement}
+use Rattle.compound.proofs.either.Tie as tie
 
 joined-requires : tie.Need-joined-requires
 joined-requires c κs = search needs

@@ -1,10 +1,10 @@
--- `piece::plus` meets its contract: it makes `plusOf`, which is the fragment of `plus a`.
+-- `compound::plus` meets its contract: it makes `plusOf`, which is the fragment of `plus a`.
 use mathlib.Core.Path.{_∙_, ap}
 use borrow.Author.Needs.{needs}
 use Rattle.piece.proofs.Laws.{linkedOf}
-use Rattle.piece.proofs.Wholes.{plusOf, with-arrays, plus-whole}
-use Rattle.piece.proofs.plus.Statement.{statement}
-use Rattle.piece.proofs.plus.Tie as tie
+use Rattle.compound.proofs.Wholes.{plusOf, with-arrays, plus-whole}
+use Rattle.compound.proofs.plus.Statement.{statement}
+use Rattle.compound.proofs.plus.Tie as tie
 
 linked-requires : tie.Need-linked-requires
 linked-requires c κs = search needs

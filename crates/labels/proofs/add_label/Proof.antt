@@ -1,8 +1,8 @@
--- `advance::add_label` meets its contract: the new label, and with room for it, what is held so far with it.
-use Rattle.advance.proofs.Held.{set-over, set-behind}
+-- `labels::add_label` meets its contract: the new label, and with room for it, what is held so far with it.
+use Rattle.labels.proofs.Held.{set-over, set-behind}
 use borrow.Author.Needs.{needs}
-use Rattle.advance.proofs.add_label.Statement.{statement}
-use Rattle.advance.proofs.add_label.Tie as tie
+use Rattle.labels.proofs.add_label.Statement.{statement}
+use Rattle.labels.proofs.add_label.Tie as tie
 
 cast-p : tie.Need-cast-p
 cast-p c = search needs

@@ -1,13 +1,13 @@
--- `advance::append_label` meets its contract: the positions written so far are those before and as many times p.
+-- `labels::append_label` meets its contract: the positions written so far are those before and as many times p.
 use mathlib.Core.Path.{_≡_, refl, _∙_}
 use mathlib.Core.List.{_++_}
 use Prim.Native.Nat.{_+_, _-_, _≤_}
 use native.Mathlib.Omega.{arith}
 use lib.ListN.{length, take, replicate, length-set}
-use Rattle.advance.proofs.Held.{positions-none, positions-more, label-over, label-behind}
+use Rattle.labels.proofs.Held.{positions-none, positions-more, label-over, label-behind}
 use borrow.Author.Needs.{needs}
-use Rattle.advance.proofs.append_label.Statement.{statement}
-use Rattle.advance.proofs.append_label.Tie as tie
+use Rattle.labels.proofs.append_label.Statement.{statement}
+use Rattle.labels.proofs.append_label.Tie as tie
 
 abbrev Inv-loop : tie.InvT-loop
 Inv-loop label m p next next-at₀ total i₀ next-at i =

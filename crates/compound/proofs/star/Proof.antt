@@ -1,10 +1,10 @@
--- `piece::star` meets its contract: it makes `optionalOf` of `plusOf`, which is the fragment of `star a`.
+-- `compound::star` meets its contract: it makes `optionalOf` of `plusOf`, which is the fragment of `star a`.
 use mathlib.Core.Path.{_∙_, ap}
 use borrow.Author.Needs.{needs}
 use Rattle.piece.proofs.Laws.{linkedOf}
-use Rattle.piece.proofs.Wholes.{optionalOf, plusOf, with-arrays, star-whole}
-use Rattle.piece.proofs.star.Statement.{statement}
-use Rattle.piece.proofs.star.Tie as tie
+use Rattle.compound.proofs.Wholes.{optionalOf, plusOf, with-arrays, star-whole}
+use Rattle.compound.proofs.star.Statement.{statement}
+use Rattle.compound.proofs.star.Tie as tie
 
 linked-requires : tie.Need-linked-requires
 linked-requires c κs = search needs
