@@ -1,23 +1,40 @@
 -- `trials::judged` is safe and ends: the turns are counted.
-use Prim.Native.Nat.{_-_, _≤_}
+use mathlib.Core.Path.{_≡_}
+use Prim.Native.Nat.{_-_}
+use lib.ListN.{length}
 use borrow.Author.Needs.{needs}
 use Rattle.trials.proofs.judged.Statement.{statement}
 use Rattle.trials.proofs.judged.Tie as tie
 
 abbrev Inv-loop : tie.InvT-loop
-Inv-loop s₀ seed₀ i₀ s seed i = i ≤ 4000
+Inv-loop trial₀ bytes₀ i₀ trial bytes i = (length trial ≡ length trial₀) × (length bytes ≡ length bytes₀)
 
 abbrev μ-loop : tie.MeasureT-loop
-μ-loop s₀ seed₀ i₀ s seed i = 4000 - i
+μ-loop trial₀ bytes₀ i₀ trial bytes i = 8000 - i
 
 loop-holds : tie.Need-loop-holds Inv-loop μ-loop
 loop-holds c = search needs
 
-next-requires : tie.Need-next-requires Inv-loop μ-loop
-next-requires c κs = search needs
+words-requires : tie.Need-words-requires Inv-loop μ-loop
+words-requires c κs = search needs
 
-one-requires : tie.Need-one-requires Inv-loop μ-loop
-one-requires c κs = search needs
+bytes-requires : tie.Need-bytes-requires Inv-loop μ-loop
+bytes-requires c κs = search needs
+
+run-requires : tie.Need-run-requires Inv-loop μ-loop
+run-requires c κs = search needs
+
+rows-requires : tie.Need-rows-requires Inv-loop μ-loop
+rows-requires c κs = search needs
+
+run-requires-2 : tie.Need-run-requires-2 Inv-loop μ-loop
+run-requires-2 c κs = search needs
+
+reorder-requires : tie.Need-reorder-requires Inv-loop μ-loop
+reorder-requires c κs = search needs
+
+run-requires-3 : tie.Need-run-requires-3 Inv-loop μ-loop
+run-requires-3 c κs = search needs
 
 add-i : tie.Need-add-i Inv-loop μ-loop
 add-i c = search needs
@@ -27,6 +44,12 @@ loop-less c = search needs
 
 loop-again : tie.Need-loop-again Inv-loop μ-loop
 loop-again c = search needs
+
+same-length : tie.Need-same-length Inv-loop μ-loop
+same-length c = search needs
+
+same-length-2 : tie.Need-same-length-2 Inv-loop μ-loop
+same-length-2 c = search needs
 
 returns : tie.Need-returns Inv-loop μ-loop
 returns c = search needs
@@ -38,9 +61,16 @@ judged-spec =
     Inv-loop
     μ-loop
     loop-holds
-    next-requires
-    one-requires
+    words-requires
+    bytes-requires
+    run-requires
+    rows-requires
+    run-requires-2
+    reorder-requires
+    run-requires-3
     add-i
     loop-less
     loop-again
+    same-length
+    same-length-2
     returns)

@@ -1,0 +1,188 @@
+// The text of a book: its variables, its symbols, and its pattern, every node in parentheses. For `invent`. What does not fit is left
+// out, and the reader then refuses the text.
+use cells::ENTRIES;
+use cells::NODES;
+use cells::PLACE;
+
+// The lines before the pattern, an entry to each, 16 bytes wide: 0 is no byte, 1 stands for the kind, 2 for the space before a place if
+// there is one, 3 for the place; then the word before the pattern.
+const LINE: usize = 16;
+
+const LINES_BYTES: usize = NODES * LINE + 6;
+
+const LINES: [u32; LINES_BYTES] = [
+    118,
+    97,
+    114,
+    115,
+    0,
+    0,
+    0,
+    2,
+    3,
+    2,
+    3,
+    2,
+    3,
+    2,
+    3,
+    10,
+    115,
+    121,
+    109,
+    32,
+    112,
+    32,
+    1,
+    2,
+    3,
+    2,
+    3,
+    2,
+    3,
+    2,
+    3,
+    10,
+    115,
+    121,
+    109,
+    32,
+    113,
+    32,
+    1,
+    2,
+    3,
+    2,
+    3,
+    2,
+    3,
+    2,
+    3,
+    10,
+    115,
+    121,
+    109,
+    32,
+    114,
+    32,
+    1,
+    2,
+    3,
+    2,
+    3,
+    2,
+    3,
+    2,
+    3,
+    10,
+    115,
+    121,
+    109,
+    32,
+    115,
+    32,
+    1,
+    2,
+    3,
+    2,
+    3,
+    2,
+    3,
+    2,
+    3,
+    10,
+    109,
+    97,
+    116,
+    99,
+    104,
+    32,
+];
+
+const HEAD: usize = 7;
+
+const STAND_INS: u32 = 4;
+
+pub fn text(trial: &[u32], bytes: &mut [u8]) -> usize {
+    let n = lines(trial, bytes);
+    let k = pattern(trial, bytes, n, cells::get(trial, cells::ROOT) as usize);
+    push(bytes, k, b'\n' as u32)
+}
+
+// A byte behind n of the text: how many there are then.
+fn push(bytes: &mut [u8], n: usize, b: u32) -> usize {
+    if b == 0 {
+        return n;
+    }
+    if cells::TEXT_BYTES <= n {
+        return n;
+    }
+    cells::put_byte(bytes, cells::TEXT + n, b);
+    n + 1
+}
+
+fn lines(trial: &[u32], bytes: &mut [u8]) -> usize {
+    let mut n: usize = 0;
+    let mut w: usize = 0;
+    while w < LINES_BYTES {
+        n = push(bytes, n, byte(trial, w / LINE, w % LINE, LINES[w]));
+        w += 1;
+    }
+    n
+}
+
+// A byte of the line of an entry, if there is such a symbol.
+fn byte(trial: &[u32], entry: usize, column: usize, b: u32) -> u32 {
+    let kind = cells::at(trial, entry, cells::KIND);
+    if kind == 0 {
+        return 0;
+    }
+    if b == 1 {
+        return b'0' as u32 + kind % 10;
+    }
+    if b == 0 || STAND_INS <= b {
+        return b;
+    }
+    place(trial, entry, (column % LINE + LINE - HEAD) / 2 % 8, b)
+}
+
+fn place(trial: &[u32], entry: usize, i: usize, b: u32) -> u32 {
+    let p = cells::at(trial, entry, PLACE + i % 4);
+    if cells::at(trial, entry, cells::COUNT) as usize <= i {
+        return 0;
+    }
+    if b == 2 {
+        return b' ' as u32;
+    }
+    if p == 0 {
+        return b'_' as u32;
+    }
+    b'a' as u32 + p % 8 - 1
+}
+
+// Entry k behind n bytes of the text: how many there are then. A symbol is a letter, and entry 0 is nothing.
+fn pattern(trial: &[u32], bytes: &mut [u8], n: usize, k: usize) -> usize {
+    let a = cells::at(trial, k, cells::FIRST) as usize;
+    let b = cells::at(trial, k, cells::WRITTEN) as usize;
+    if k < NODES {
+        return push(bytes, n, name(k));
+    }
+    if k <= a {
+        return n;
+    }
+    if k <= b {
+        return n;
+    }
+    let mut x = push(bytes, n, b'(' as u32);
+    x = pattern(trial, bytes, x, a);
+    x = push(bytes, x, cells::at(trial, k, cells::BETWEEN));
+    x = pattern(trial, bytes, x, b);
+    push(bytes, x, cells::at(trial, k, cells::BEHIND))
+}
+
+fn name(k: usize) -> u32 {
+    if k == 0 {
+        return 0;
+    }
+    b'p' as u32 - 1 + (k % ENTRIES) as u32
+}
