@@ -166,7 +166,8 @@ other = 9 ∷ replicate 19 0
 pub nine-first :
     map (λ b. number b (idle 0) other) (named (at 4095 1) (at 0 12) ∷ named (at 4096 1) (at 0 12) ∷ named (at 4095 1) (at 4096 1) ∷ tagged 1 ∷ tagged 2 ∷ [])
     ++ (map (λ s. number one s other) (holding (slot 0) ∷ holding (slot 1) ∷ holding (loose 6) ∷ holding (loose 7) ∷ [])
-    ++ (number unbound (idle 0) (1 ∷ replicate 19 0) ∷ number unbound (idle 1000000) (1 ∷ replicate 19 0) ∷ number unbound (idle 0) (1 ∷ 0 ∷ 1 ∷ replicate 17 0) ∷ number one (idle 1000001) [] ∷ number one (idle 1000000) []
+    ++ (number unbound (idle 0) (1 ∷ replicate 19 0) ∷ number unbound (idle 1000000) (1 ∷ replicate 19 0)
+    ∷ number unbound (idle 0) (1 ∷ 0 ∷ 1 ∷ replicate 17 0) ∷ number one (idle 1000001) [] ∷ number one (idle 1000000) []
     ∷ number two (stateOf (record { number = 1000000; held = heldAt 1 (bound 1 ∷ free (1 ∷ 2 ∷ 3 ∷ 4 ∷ 5 ∷ 6 ∷ []) ∷ []) ∷ [] })) (load 1 7) ∷ []))
     ≡ (13 ∷ 9 ∷ 9 ∷ 13 ∷ 9 ∷ []) ++ ((13 ∷ 9 ∷ 13 ∷ 9 ∷ []) ++ (9 ∷ 9 ∷ 10 ∷ 9 ∷ 10 ∷ 11 ∷ []))
 unfolding bit join meet single pad matches constraintOf soundBook soundSymbol compareDisjuncts skipBy sources stepSet skipSet newLabel newHeld
