@@ -38,9 +38,7 @@ pub const BETWEEN: usize = 4;
 
 pub const BEHIND: usize = 5;
 
-// The rules: the first part and then the second; the first; nothing; the second.
-pub const BOTH: u32 = 1;
-
+// The rules, a bit to each, the lowest for the first part and then the second; the first; nothing; the second.
 pub const ONE: u32 = 2;
 
 pub const NOTHING: u32 = 4;

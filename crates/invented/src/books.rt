@@ -1,5 +1,5 @@
 // The words of a random book: how many variables, over which domain; symbols of few kinds and counts, so that several match one event,
-// a place ignored or a variable, which may stand twice; and a pattern as nodes, each made of earlier ones. For `invent`.
+// a place ignored or a variable, which may stand twice; and a pattern as nodes, each made of earlier ones. For `words`.
 use crate::draw;
 use cells::ENTRIES;
 use cells::ENTRY_WORDS;

@@ -1,5 +1,5 @@
 // The words of random events and the bytes of their records: now and then out of form or a byte short, and the place of the rows near
-// the end of the buffer or beyond it. For `invent`.
+// the end of the buffer or beyond it. For `words` and `bytes`.
 use crate::books;
 use crate::draw;
 use cells::BUFFER_BYTES;

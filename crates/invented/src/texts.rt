@@ -1,4 +1,4 @@
-// The text of a book: its variables, its symbols, and its pattern, every node in parentheses. For `invent`. What does not fit is left
+// The text of a book: its variables, its symbols, and its pattern, every node in parentheses. For `bytes`. What does not fit is left
 // out, and the reader then refuses the text.
 use cells::ENTRIES;
 use cells::NODES;
@@ -8,7 +8,9 @@ use cells::PLACE;
 // there is one, 3 for the place; then the word before the pattern.
 const LINE: usize = 16;
 
-const LINES_BYTES: usize = NODES * LINE + 6;
+const MATCH: usize = 6;
+
+const LINES_BYTES: usize = NODES * LINE + MATCH;
 
 const LINES: [u32; LINES_BYTES] = [
     118,

@@ -1,4 +1,4 @@
--- `invented::texts::+pattern` is safe.
+-- `invented::texts::pattern` is safe and ends: the parts of a node that it writes have smaller numbers.
 use borrow.Author.Needs.{needs}
 use Prim.Native.Nat.{ℕ, _<_}
 use borrow.Fn.Kinds.{In}
