@@ -45,7 +45,9 @@ pub const NOTHING: u32 = 4;
 
 pub const OTHER: u32 = 8;
 
-// The entries: symbols, nodes, events; then what one more of each variable adds to a valuation's number, less one.
+// Variables; the entries: symbols, nodes, events; then what one more of each variable adds to a valuation's number, less one.
+pub const VARIABLE_LIMIT: usize = 4;
+
 pub const SYMBOLS: usize = 1;
 
 pub const SYMBOL_LIMIT: usize = 4;
@@ -61,7 +63,7 @@ pub const EVENT_LIMIT: usize = 20;
 pub const STEPS: usize = (EVENTS + EVENT_LIMIT) * ENTRY_WORDS;
 
 // The last node, and the events in the order of a run.
-pub const ROOT: usize = STEPS + 4;
+pub const ROOT: usize = STEPS + VARIABLE_LIMIT;
 
 pub const ORDER: usize = STEPS + ENTRY_WORDS;
 

@@ -8,6 +8,19 @@ use cells::NODES;
 use cells::SECOND;
 use cells::SYMBOLS;
 
+// One book in so many is a gathering one; the numbers of variables; symbols; kinds of nodes; nodes that may be the last.
+const GATHERING_IN: u32 = 8;
+
+const VARIABLE_COUNTS: u32 = 5;
+
+const SYMBOL_LIMIT: u32 = cells::SYMBOL_LIMIT as u32;
+
+const NODE_KINDS: usize = 8;
+
+const ROOTS: u32 = 10;
+
+const FIRST_NODE: u32 = NODES as u32;
+
 // Draws that are for no place of a trial.
 const KIND_OF_BOOK: usize = 1000;
 
@@ -137,7 +150,7 @@ const FAMILIES: [u32; 5 * FAMILY] = [
 
 // The nodes by their kind, a symbol, a sequence, an alternation, `*`, `+`, `?`, and two symbols more: the rules, and the bytes between
 // and behind the parts as they are written.
-const SHAPES: [u32; 8 * ENTRY_WORDS] = [
+const SHAPES: [u32; NODE_KINDS * ENTRY_WORDS] = [
     2,
     0,
     0,
@@ -208,18 +221,18 @@ const SHAPES: [u32; 8 * ENTRY_WORDS] = [
 const OPTION: usize = 5;
 
 fn gathering(book: u64) -> bool {
-    draw(book, KIND_OF_BOOK, 8) == 0
+    draw(book, KIND_OF_BOOK, GATHERING_IN) == 0
 }
 
 pub fn variables(book: u64) -> u32 {
     if gathering(book) {
         return 2;
     }
-    draw(book, VARIABLES, 5)
+    draw(book, VARIABLES, VARIABLE_COUNTS)
 }
 
 pub fn family(variables: u32, i: usize) -> u32 {
-    FAMILIES[(variables % 5) as usize * FAMILY + i % FAMILY]
+    FAMILIES[(variables % VARIABLE_COUNTS) as usize * FAMILY + i % FAMILY]
 }
 
 // A word of the book before the events.
@@ -251,11 +264,16 @@ fn symbol(book: u64, w: usize) -> u32 {
     if (symbol_count(book) as usize) < s {
         return 0;
     }
-    crate::shape(book, w, variables(book) % 5 + 1, draw(book, COUNTS + s, 4))
+    crate::shape(
+        book,
+        w,
+        variables(book) % VARIABLE_COUNTS + 1,
+        draw(book, COUNTS + s, crate::COUNTS),
+    )
 }
 
 fn symbol_count(book: u64) -> u32 {
-    draw(book, SYMBOL_COUNT, 4) % 4 + 1
+    draw(book, SYMBOL_COUNT, SYMBOL_LIMIT) % SYMBOL_LIMIT + 1
 }
 
 // The kind of a node: the first two are symbols.
@@ -263,7 +281,7 @@ fn kind(book: u64, k: usize) -> usize {
     if k < NODES + 2 {
         return 0;
     }
-    draw(book, KINDS + k % ENTRIES, 8) as usize
+    draw(book, KINDS + k % ENTRIES, NODE_KINDS as u32) as usize
 }
 
 fn node(book: u64, w: usize) -> u32 {
@@ -276,7 +294,7 @@ fn node(book: u64, w: usize) -> u32 {
     if i == SECOND || i == cells::WRITTEN {
         return second(book, k, kind, i);
     }
-    SHAPES[kind % 8 * ENTRY_WORDS + i]
+    SHAPES[kind % NODE_KINDS * ENTRY_WORDS + i]
 }
 
 // A symbol, or one of the last two nodes.
@@ -292,7 +310,7 @@ fn first(book: u64, k: usize, kind: usize) -> u32 {
 fn second(book: u64, k: usize, kind: usize, i: usize) -> u32 {
     let before = (k % ENTRIES + ENTRIES - NODES) % ENTRIES;
     if kind == 1 || kind == 2 {
-        return draw(book, SECONDS + k % ENTRIES, before as u32) % 16 + NODES as u32;
+        return draw(book, SECONDS + k % ENTRIES, before as u32) % ROOTS + FIRST_NODE;
     }
     if i == SECOND {
         return (k % ENTRIES) as u32;
@@ -304,15 +322,15 @@ fn root(book: u64) -> u32 {
     if gathering(book) {
         return GATHERED_ROOT;
     }
-    draw(book, ROOT, 10) % 10 + NODES as u32 + 1
+    draw(book, ROOT, ROOTS) % ROOTS + FIRST_NODE + 1
 }
 
 // A word behind the events: the steps of the variables, the last node, and the order.
 pub fn behind(book: u64, i: usize) -> u32 {
-    if i < 4 {
+    if i < cells::VARIABLE_LIMIT {
         return family(variables(book), i + 2);
     }
-    if i == 4 {
+    if i == cells::VARIABLE_LIMIT {
         return root(book);
     }
     if i < ENTRY_WORDS {

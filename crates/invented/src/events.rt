@@ -6,6 +6,31 @@ use cells::BUFFER_BYTES;
 use cells::ENTRY_WORDS;
 use cells::RECORD_BYTES;
 
+// One trace in so many is narrow; one record in so many is a byte short; one place in so many is near the end, and one beyond it, and
+// the others are below a bound; one byte in so many is odd.
+const NARROW_IN: u32 = 3;
+
+const SHORT_IN: u32 = 50;
+
+const FAR_IN: u32 = 20;
+
+const NEAR_BELOW: u32 = 1000;
+
+const ODD_IN: u32 = 40;
+
+// What a place near the end leaves, less than a row takes. Places and values are below these.
+const LEFT: u32 = 6;
+
+const PLACES: u32 = cells::SHORT as u32;
+
+const VALUES: u32 = 16;
+
+// What is noted of a record before it is sent.
+const UNANSWERED: u32 = 1;
+
+// Words before any that is drawn besides.
+const DRAWN: usize = 1000;
+
 // Draws that are for no place of a trial, or besides that for it.
 const NARROW: usize = 2000;
 
@@ -28,14 +53,14 @@ const RECORDS: usize = (cells::EVENTS + cells::EVENT_LIMIT) * RECORD_BYTES;
 // In a narrow trace every first argument is 0, and most events have two.
 pub fn word(book: u64, trace: u64, w: usize) -> u32 {
     if w % ENTRY_WORDS == cells::ROWS {
-        return place(trace, w % 1000);
+        return place(trace, w % DRAWN);
     }
     if w % ENTRY_WORDS == cells::ANSWER {
-        return 1;
+        return UNANSWERED;
     }
-    let limit = books::family(books::variables(book), 0) % 16 + 1;
-    let count = draw(trace, COUNTS + w % 1000 / ENTRY_WORDS, 4);
-    if draw(book, NARROW, 3) != 0 {
+    let limit = books::family(books::variables(book), 0) % VALUES + 1;
+    let count = draw(trace, COUNTS + w % DRAWN / ENTRY_WORDS, crate::COUNTS);
+    if draw(book, NARROW, NARROW_IN) != 0 {
         return crate::shape(trace, w, limit, count);
     }
     if w % ENTRY_WORDS == cells::PLACE {
@@ -45,8 +70,12 @@ pub fn word(book: u64, trace: u64, w: usize) -> u32 {
 }
 
 fn place(trace: u64, w: usize) -> u32 {
-    let place = far(draw(trace, w, 20), draw(trace, NEAR + w % 1000, 1000)) % 65536;
-    if draw(trace, SHORT + w % 1000, 50) == 0 {
+    let place = far(
+        draw(trace, w, FAR_IN),
+        draw(trace, NEAR + w % DRAWN, NEAR_BELOW),
+    )
+        % PLACES;
+    if draw(trace, SHORT + w % DRAWN, SHORT_IN) == 0 {
         return cells::SHORT as u32 + place;
     }
     place
@@ -54,7 +83,7 @@ fn place(trace: u64, w: usize) -> u32 {
 
 fn far(some: u32, near: u32) -> u32 {
     if some == 0 {
-        return BUFFER_BYTES as u32 - 6;
+        return BUFFER_BYTES as u32 - LEFT;
     }
     if some == 1 {
         return BUFFER_BYTES as u32 + 1;
@@ -74,7 +103,7 @@ pub fn records(trace: u64, trial: &[u32], bytes: &mut [u8]) {
 fn byte(trace: u64, trial: &[u32], w: usize) -> u32 {
     let e = w / RECORD_BYTES;
     let j = w % RECORD_BYTES;
-    if (j + 1) % RECORD_BYTES <= WORD_BYTES && draw(trace, SPOILED + w % 10000, 40) == 0 {
+    if (j + 1) % RECORD_BYTES <= WORD_BYTES && draw(trace, SPOILED + w % 10000, ODD_IN) == 0 {
         return ((j + RECORD_BYTES - 1) / RECORD_BYTES * ODD) as u32;
     }
     if j < cells::PLACE {

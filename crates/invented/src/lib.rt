@@ -11,6 +11,13 @@ const START: u64 = 20261115;
 
 const SEEDS: u64 = 2147483647;
 
+// Draws are for small numbers. Kinds of symbols and events, from 1, and counts.
+const SMALL: u64 = 65536;
+
+const KINDS: u32 = 2;
+
+const COUNTS: u32 = 4;
+
 // The seed of the book of trial number i: two traces to a book. And that of its trace.
 fn book_of(i: u64) -> u64 {
     draws::below(START, i / 2, SEEDS)
@@ -52,14 +59,14 @@ fn word(book: u64, trace: u64, w: usize) -> u32 {
 
 // A number below n; k tells several draws of one seed apart.
 fn draw(seed: u64, k: usize, n: u32) -> u32 {
-    (draws::below(seed, k as u64, n as u64) % 65536) as u32
+    (draws::below(seed, k as u64, n as u64) % SMALL) as u32
 }
 
 // A word of a symbol or an event: a kind, a count, and so many numbers below a limit.
 fn shape(seed: u64, w: usize, limit: u32, count: u32) -> u32 {
     let i = w % ENTRY_WORDS;
     if i == cells::KIND {
-        return 1 + draw(seed, w, 2) % 2;
+        return 1 + draw(seed, w, KINDS) % KINDS;
     }
     if i == cells::COUNT {
         return count;

@@ -149,7 +149,7 @@ fn byte(trial: &[u32], entry: usize, column: usize, b: u32) -> u32 {
 }
 
 fn place(trial: &[u32], entry: usize, i: usize, b: u32) -> u32 {
-    let p = cells::at(trial, entry, PLACE + i % 4);
+    let p = cells::at(trial, entry, PLACE + i % cells::VARIABLE_LIMIT);
     if cells::at(trial, entry, cells::COUNT) as usize <= i {
         return 0;
     }

@@ -14,6 +14,9 @@ const BOUND: u32 = 1000000000;
 
 const ROW_LIMIT: usize = 65536;
 
+// Bits of a number.
+const BITS: usize = 32;
+
 // Exchanges of neighbours that are tried, and how far apart one is from the next.
 const EXCHANGES: usize = 60;
 
@@ -73,12 +76,18 @@ fn listed(trial: &[u32], e: usize, number: u32, rows: &[u8]) -> bool {
     let mut from: usize = 0;
     let mut code: u32 = 0;
     while code < codes {
-        let flag = cells::get(trial, cells::LISTED + code as usize) >> ((e % 32 + 16) % 32) & 1;
-        x = x & (1 - flag % 2 | is_row(trial, code, number, cells::part(rows, from, ROW_BYTES)));
-        from += (flag % 2) as usize * ROW_BYTES;
+        let flag = flagged(trial, e, code) % 2;
+        x = x & (1 - flag | is_row(trial, code, number, cells::part(rows, from, ROW_BYTES)));
+        from += flag as usize * ROW_BYTES;
         code += 1;
     }
     x == 1 && from == rows.len()
+}
+
+// 1 where the second matcher lists a valuation after event e: a stretch ends behind the event's place in the first order.
+fn flagged(trial: &[u32], e: usize, code: u32) -> u32 {
+    let ends = cells::get(trial, cells::LISTED + code as usize);
+    ends >> ((e % BITS + BITS + 1 - cells::EVENTS) % BITS)
 }
 
 // 1 where the bytes are the row of a valuation.
@@ -136,13 +145,12 @@ pub fn reorder(trial: &mut [u32]) {
 
 // The event at a place of the order and the next, unless some valuation is concerned by both.
 fn exchange(trial: &mut [u32], at: usize) {
-    if at % cells::WORDS + 1 < trial.len() {
-        let e = trial[at % cells::WORDS];
-        let f = trial[at % cells::WORDS + 1];
-        if concern::dependent(trial, e, f) {
-            return;
-        }
-        trial[at % cells::WORDS] = f;
-        trial[at % cells::WORDS + 1] = e;
+    let next = at % cells::WORDS + 1;
+    let e = cells::get(trial, at);
+    let f = cells::get(trial, next);
+    if concern::dependent(trial, e, f) {
+        return;
     }
+    cells::put(trial, at, f);
+    cells::put(trial, next, e);
 }

@@ -13,7 +13,7 @@ pub fn same(x: u32, y: u32) -> u32 {
 
 // The value of variable v, from 0, in the valuation with a number: a digit to the base of the domain, the first variable's the highest.
 pub fn value(trial: &[u32], code: u32, v: usize) -> u32 {
-    let step = cells::get(trial, cells::STEPS + v % 4) % BOUND + 1;
+    let step = cells::get(trial, cells::STEPS + v % cells::VARIABLE_LIMIT) % BOUND + 1;
     code / step % (cells::get(trial, cells::LARGEST) % BOUND + 1)
 }
 
@@ -88,7 +88,8 @@ pub fn dependent(trial: &[u32], e: u32, f: u32) -> bool {
     let codes = codes(trial);
     let mut code: u32 = 0;
     while code < codes {
-        if holding(trial, code, e as usize) != 0 && holding(trial, code, f as usize) != 0 {
+        let x = same(holding(trial, code, e as usize), 0);
+        if x | same(holding(trial, code, f as usize), 0) == 0 {
             return true;
         }
         code += 1;

@@ -6,6 +6,17 @@ use tally::Tally;
 // 4,000 books, and two traces to each that is accepted. A trace has three runs.
 const TRIALS: u64 = 8000;
 
+// Document 01's answers to a record that is refused.
+const UNSOUND: usize = SCORE + 9;
+
+const OUT_OF_FORM: usize = SCORE + 10;
+
+const TOO_MANY: usize = SCORE + 11;
+
+const NO_ROOM: usize = SCORE + 12;
+
+const NO_SPACE: usize = SCORE + 13;
+
 fn main() {
     let mut trial = [0u32; cells::WORDS];
     let mut bytes = [0u8; cells::BYTES];
@@ -67,10 +78,10 @@ fn report(trial: &[u32]) {
     line(traces, b" traces, three runs of each\n");
     line(cells::get(trial, cells::ROW_COUNT), b" rows\n");
     line(cells::get(trial, SCORE), b" answered 0\n");
-    line(cells::get(trial, SCORE + 9), b" answered 9\n");
-    line(cells::get(trial, SCORE + 10), b" answered 10\n");
-    line(cells::get(trial, SCORE + 11), b" answered 11\n");
-    line(cells::get(trial, SCORE + 12), b" answered 12\n");
-    line(cells::get(trial, SCORE + 13), b" answered 13\n");
+    line(cells::get(trial, UNSOUND), b" answered 9\n");
+    line(cells::get(trial, OUT_OF_FORM), b" answered 10\n");
+    line(cells::get(trial, TOO_MANY), b" answered 11\n");
+    line(cells::get(trial, NO_ROOM), b" answered 12\n");
+    line(cells::get(trial, NO_SPACE), b" answered 13\n");
     line(cells::get(trial, SCORE + cells::WRONG), b" differences\n");
 }

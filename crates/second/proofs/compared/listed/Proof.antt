@@ -16,23 +16,8 @@ get-requires c κs = search needs
 loop-holds : tie.Need-loop-holds Inv-loop μ-loop
 loop-holds c = search needs
 
-cast-get : tie.Need-cast-get Inv-loop μ-loop
-cast-get c = search needs
-
-add-get : tie.Need-add-get Inv-loop μ-loop
-add-get c = search needs
-
-get-requires-2 : tie.Need-get-requires-2 Inv-loop μ-loop
-get-requires-2 c κs = search needs
-
-add-flag : tie.Need-add-flag Inv-loop μ-loop
-add-flag c = search needs
-
-cast-flag : tie.Need-cast-flag Inv-loop μ-loop
-cast-flag c = search needs
-
-shr-flag : tie.Need-shr-flag Inv-loop μ-loop
-shr-flag c = search needs
+flagged-requires : tie.Need-flagged-requires Inv-loop μ-loop
+flagged-requires c κs = search needs
 
 sub-x : tie.Need-sub-x Inv-loop μ-loop
 sub-x c = search needs
@@ -75,12 +60,7 @@ listed-spec =
     μ-loop
     get-requires
     loop-holds
-    cast-get
-    add-get
-    get-requires-2
-    add-flag
-    cast-flag
-    shr-flag
+    flagged-requires
     sub-x
     part-requires
     is-row-requires

@@ -19,8 +19,14 @@ loop-holds c = search needs
 holding-requires : tie.Need-holding-requires Inv-loop μ-loop
 holding-requires c κs = search needs
 
+same-requires : tie.Need-same-requires Inv-loop μ-loop
+same-requires c κs = search needs
+
 holding-requires-2 : tie.Need-holding-requires-2 Inv-loop μ-loop
 holding-requires-2 c κs = search needs
+
+same-requires-2 : tie.Need-same-requires-2 Inv-loop μ-loop
+same-requires-2 c κs = search needs
 
 returns : tie.Need-returns Inv-loop μ-loop
 returns c = search needs
@@ -46,7 +52,9 @@ dependent-spec =
     codes-requires
     loop-holds
     holding-requires
+    same-requires
     holding-requires-2
+    same-requires-2
     returns
     add-code
     loop-less
