@@ -1,5 +1,6 @@
 // The full pool, as document 01 has it under "Roasts to check against": B1, load(1,1) to load(1,128): 0; load(1,129): 12; drop(1): 128
 // rows; load(1,129): 12; clean(1), load(1,129): 0. Counts the calls that answered right, rows included.
+use crate::RECORD_BYTES;
 use crate::score::Score;
 use book::Book;
 use state::State;
@@ -7,8 +8,6 @@ use tally::Tally;
 
 // A row, an event record, the disjuncts that a state has places for, and a buffer for as many rows.
 const ROW_BYTES: usize = writer::ROW;
-
-const RECORD_BYTES: usize = 20;
 
 const CAPACITY: usize = state::CAPACITY;
 

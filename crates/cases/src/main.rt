@@ -19,6 +19,9 @@ const EVENTS: usize = 9;
 
 const ROOM: usize = 64;
 
+// An event record.
+pub const RECORD_BYTES: usize = 20;
+
 const LARGEST: u64 = 18446744073709551615;
 
 // All that an event call hands back, and the tally that it changed.
@@ -106,8 +109,8 @@ fn byte(i: usize, k: usize) -> u8 {
     table[(i % EVENTS * 4 + k % 4) % 36]
 }
 
-fn record(i: usize) -> [u8; 20] {
-    let mut r = [0u8; 20];
+fn record(i: usize) -> [u8; RECORD_BYTES] {
+    let mut r = [0u8; RECORD_BYTES];
     r[0] = byte(i, 0);
     r[1] = byte(i, 1);
     r[4] = byte(i, 2);
