@@ -5,13 +5,14 @@ use mathlib.Core.Path.{_≡_, refl}
 use mathlib.Core.Bool.{Bool, true, false}
 use mathlib.Core.List.{List, [], _∷_, _++_, map}
 use Prim.Native.Nat.{ℕ, _-_, _^_}
-use lib.ListN.{replicate}
+use lib.ListN.{length, replicate}
 use Rattle.laws.specs.Bits.{bit}
 use Rattle.laws.specs.Lists.{numbers}
 use Rattle.meaning.specs.Events.{Parameter, ignored, names, Symbol, matches, constraintOf}
 use Rattle.meaning.specs.Book.{Book, soundSymbol, soundBook}
 use Rattle.meaning.specs.Labels.{bound, free, Held, heldAt, State, compareDisjuncts, skipBy, sources, stepSet, skipSet, newLabel, newHeld}
 use Rattle.meaning.specs.Room.{setRoom, room}
+use Rattle.meaning.specs.Rows.{rows, leavesFree}
 use Rattle.meaning.specs.Sound.{soundPiece, soundHeld, soundState}
 
 abbrev book : ℕ → List Symbol → List ℕ → (begins ends : ℕ) → List ℕ → Bool → Book
@@ -77,9 +78,11 @@ pub sound-states : map (soundState pairs)
     ∷ state 1 (heldAt 1 (free (2 ^ 32 ∷ []) ∷ []) ∷ [])
     ∷ state 1 (heldAt 1 (bound 1 ∷ []) ∷ heldAt 1 (bound 1 ∷ []) ∷ [])
     ∷ state 1 (heldAt 2 (bound 1 ∷ []) ∷ heldAt 1 (bound 1 ∷ []) ∷ [])
+    ∷ state 1 (heldAt 1 (bound 2 ∷ []) ∷ heldAt 1 (bound 1 ∷ []) ∷ [])
+    ∷ state 1 (heldAt 1 (free (7 ∷ []) ∷ []) ∷ heldAt 1 (free [] ∷ []) ∷ [])
     ∷ state 1 (many 129)
     ∷ [])
-    ≡ true ∷ true ∷ replicate 12 false
+    ≡ true ∷ true ∷ replicate 14 false
 unfolding soundState soundHeld soundPiece compareDisjuncts
 sound-states = refl
 
@@ -116,6 +119,50 @@ pub exact-room :
     × (room ended (map (λ x. heldAt 1 (free [] ∷ free (x ∷ []) ∷ [])) (numbers 10 65)) (record { kind = 1; args = 1 ∷ 900 ∷ [] }) ≡ false)
 unfolding bit matches constraintOf compareDisjuncts skipBy sources stepSet skipSet newLabel newHeld setRoom room
 exact-room = (refl, refl, refl, refl, refl, refl, refl, refl, refl)
+
+-- "some step set, or some skip set after one of its symbols": each set by itself, and no more than these; each of two step sets of 65 (130 rows
+-- in all), of two skip sets of 66, has room. "Places of disjuncts that end are used again", also where a later position's end: 127 end at
+-- the second position while one comes at the first.
+abbrev fork : Book
+fork =
+    book 2 (symbol 1 (names 0 ∷ []) ∷ symbol 2 (names 1 ∷ ignored ∷ []) ∷ symbol 2 (ignored ∷ names 1 ∷ []) ∷ []) (0 ∷ 1 ∷ 2 ∷ []) 2 12
+    (12 ∷ 0 ∷ 0 ∷ []) false
+
+abbrev twice : Book
+twice = book 2 (symbol 1 (names 0 ∷ names 1 ∷ []) ∷ symbol 1 (ignored ∷ ignored ∷ []) ∷ []) (0 ∷ 0 ∷ 0 ∷ []) 8 8 (8 ∷ 8 ∷ 0 ∷ []) false
+
+abbrev row-on : Book
+row-on = book 2 (symbol 2 (names 0 ∷ []) ∷ symbol 1 (names 0 ∷ names 1 ∷ []) ∷ []) (0 ∷ 1 ∷ 1 ∷ []) 2 8 (4 ∷ 8 ∷ 0 ∷ []) false
+
+abbrev loose : ℕ → List Held
+loose p = map (λ x. heldAt p (free [] ∷ free (x ∷ []) ∷ [])) (numbers 10 33)
+
+-- "through all symbols in declaration order", also where the first is one that the pattern does not name: it ends what the second would give a
+-- seventh exclusion
+abbrev unnamed-first : Book
+unnamed-first = book 1 (symbol 2 (ignored ∷ []) ∷ symbol 2 (names 0 ∷ []) ∷ []) (1 ∷ 1 ∷ []) 2 4 (4 ∷ 0 ∷ []) false
+
+pub each-set :
+    (room fork (map (λ x. heldAt 1 (bound x ∷ free [] ∷ [])) (numbers 0 65)) (record { kind = 2; args = 7 ∷ 8 ∷ [] }) ≡ true)
+    × (length (rows fork (map (λ x. heldAt 1 (bound x ∷ free [] ∷ [])) (numbers 0 65)) (record { kind = 2; args = 7 ∷ 8 ∷ [] })) ≡ 130)
+    × (room twice (loose 1 ++ loose 2) (record { kind = 1; args = 1 ∷ 900 ∷ [] }) ≡ true)
+    × (room row-on (heldAt 1 (bound 5 ∷ free [] ∷ []) ∷ map (λ x. heldAt 2 (bound 1 ∷ bound x ∷ [])) (numbers 0 127)) (record { kind = 2; args = 1 ∷ [] }) ≡ true)
+    × (room unnamed-first (heldAt 1 (free (1 ∷ 2 ∷ 3 ∷ 4 ∷ 5 ∷ 6 ∷ []) ∷ []) ∷ []) (record { kind = 2; args = 7 ∷ [] }) ≡ true)
+unfolding bit matches constraintOf compareDisjuncts skipBy sources stepSet skipSet newLabel newHeld setRoom room rows
+each-set = (refl, refl, refl, refl, refl)
+
+-- "a row that would leave a variable free": by any of the variables, with exclusions or without, from a held disjunct and from the start, at an
+-- ending position; not where all are bound, and not at a position that ends no word
+pub left-free : map (λ h. leavesFree (two 2 apart) h (record { kind = 2; args = 4 ∷ [] }))
+    ((heldAt 1 (bound 3 ∷ free [] ∷ []) ∷ [])
+    ∷ (heldAt 1 (free (1 ∷ []) ∷ bound 4 ∷ []) ∷ [])
+    ∷ (heldAt 1 (bound 3 ∷ bound 4 ∷ []) ∷ heldAt 1 (free [] ∷ free [] ∷ []) ∷ [])
+    ∷ [])
+    ++ (leavesFree (two 4 apart) [] (record { kind = 2; args = 4 ∷ [] }) ∷ leavesFree (two 2 (symbol 1 (names 0 ∷ []) ∷ symbol 2 (names 0 ∷ []) ∷ []))
+    (heldAt 1 (bound 4 ∷ free (2 ∷ []) ∷ []) ∷ []) (record { kind = 2; args = 4 ∷ [] }) ∷ leavesFree (two 2 apart) [] (record { kind = 1; args = 4 ∷ [] }) ∷ [])
+    ≡ false ∷ true ∷ true ∷ true ∷ true ∷ false ∷ []
+unfolding bit matches constraintOf sources leavesFree
+left-free = refl
 
 -- "A position that nothing follows keeps none", whatever a state holds there
 pub none-kept : newHeld pairs (heldAt 1 (bound 4 ∷ []) ∷ heldAt 2 (bound 3 ∷ []) ∷ []) (record { kind = 1; args = 5 ∷ [] })

@@ -178,6 +178,55 @@ unfolding bit join meet single pad matches constraintOf soundBook soundSymbol co
     bufferAfter rowBytes wordBytes splice front tallied capped
 nine-first = refl
 
+-- What no count reaches is not judged: names, symbols and positions beyond the book's, a symbol's places beyond its own, places of the pool that
+-- are not taken, variables beyond the book's, exclusions that are not counted, the value of a free variable. A count beyond its array is 9: 17
+-- symbols, 32 positions, 129 disjuncts.
+abbrev wild : ℕ → List Parameter
+wild n = replicate n (record { tag = 7; number = 77 })
+
+abbrev counted : (symbols positions : ℕ) → List Name → List Symbol → List ℕ → List ℕ → Book
+counted y p ns ys os fs =
+    record { variables = 1; symbols = y; names = ns; table = ys; positions = p; occurrences = os; begins = 2; ends = 4; follows = fs; empty = false }
+
+abbrev spare : Book
+spare =
+    counted 1 2 (at 5 1 ∷ at 11 1 ∷ replicate 18 (at 9999 9999))
+    (record { kind = 1; count = 1; parameters = record { tag = 1; number = 0 } ∷ wild 3 } ∷ replicate 15 (record { kind = 999; count = 9; parameters = wild 4 }))
+    (0 ∷ 0 ∷ replicate 29 99) (4 ∷ 0 ∷ replicate 29 1)
+
+abbrev filled : (symbols positions : ℕ) → Book
+filled y p =
+    counted y p (replicate 20 (at 0 1)) (replicate 16 (record { kind = 1; count = 1; parameters = replicate 4 (record { tag = 1; number = 0 }) })) (replicate 31 0)
+    (4 ∷ replicate 30 0)
+
+abbrev unusable : Slot
+unusable = record { bound = true; value = 77; count = 9; excluded = replicate 6 9 }
+
+abbrev spareState : State
+spareState =
+    record {
+      number = 1;
+      count = 1;
+      positions = 1 ∷ replicate 127 99;
+      pool = record { vars = record { bound = false; value = 77; count = 2; excluded = 3 ∷ 8 ∷ replicate 4 1 } ∷ replicate 3 unusable }
+          ∷ replicate 127 (record { vars = replicate 4 unusable });
+    }
+
+abbrev holdsMany : (counted : ℕ) → State
+holdsMany n = record { number = 1; count = n; positions = full .positions; pool = full .pool }
+
+pub counted-only :
+    number spare spareState other ∷ number (filled 16 31) (idle 0) other ∷ number (filled 17 31) (idle 0) other ∷ number (filled 16 32) (idle 0) other
+    ∷ number one (holdsMany 128) other ∷ number one (holdsMany 129) other ∷ []
+    ≡ 13 ∷ 13 ∷ 9 ∷ 9 ∷ 13 ∷ 9 ∷ []
+unfolding bit join meet single pad matches constraintOf soundBook soundSymbol compareDisjuncts skipBy sources stepSet skipSet newLabel newHeld
+    setRoom room rows leavesFree soundPiece soundHeld soundState spacesEnd wordEnd nameEnd nextWord nameFault kindOf wantWord kindFrom symbolFrom
+    linesOf itemOf nameAtom closed alternationFrom patternFrom lastLine matchFrom readingOf symbolOf tableOf viewSymbol wordAt argumentsIn isRecord
+    eventIn viewSlot slotOf viewDisjunct disjunctOf readingFor bookFor viewBook stateOf heldFirst viewState symbolCounts bookCounts bookSound
+    slotCounts stateCounts stateSound freshState rowsBy stateBy leavesFreeBy roomBy unsound outOfForm tooMany noRoom noSpace answerTo taken make
+    bufferAfter rowBytes wordBytes splice front tallied capped
+counted-only = refl
+
 -- "Held disjuncts stand by position, …": what is held stands in the first places of the pool, in its order, the others are free
 abbrev kept : State
 kept = stateOf (record { number = 3; held = heldAt 1 (free (7 ∷ 8 ∷ []) ∷ []) ∷ heldAt 2 (bound 5 ∷ []) ∷ [] })

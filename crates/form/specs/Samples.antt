@@ -204,6 +204,9 @@ lines =
     ∷ refuses (ascii "vars\nsym a 1\nmatch\n") 2 18
     ∷ refuses (ascii "vars\nsym a 1\nmatch \n") 6 19
     ∷ refuses (ascii "vars" ++ (10 ∷ gather numbered (fifteen ++ (99 ∷ 100 ∷ [])))) 3 133
+    -- behind 16 of them: a missing line, another word; only a seventeenth `sym` is one too many
+    ∷ refuses (ascii "vars" ++ (10 ∷ gather numbered (fifteen ++ (99 ∷ [])))) 2 133
+    ∷ refuses (ascii "vars" ++ (10 ∷ (gather numbered (fifteen ++ (99 ∷ [])) ++ ascii "symb 1\n"))) 2 133
     ∷ []
 
 -- patterns; "No word of the pattern may be empty, and each word must contain, for each variable, a symbol that binds it."
@@ -220,6 +223,16 @@ patterns =
     ∷ refuses (oneText (ascii "*a")) 6 19
     ∷ refuses (oneText (ascii "a!")) 6 20
     ∷ refuses (oneText (ascii "a" ++ (0 ∷ []))) 6 20
+    -- "then the earliest place", also on a line with no LF; "7, then 8, after everything"
+    ∷ refuses (ascii "vars\nsym a 1\nmatch a)") 6 20
+    ∷ refuses (ascii "vars\nsym a 1\nmatch b") 5 19
+    ∷ refuses (ascii "vars\nsym a 1\nmatch a*") 2 21
+    ∷ refuses (ascii "vars\nsym a 1\nmatch a*\n\n") 2 22
+    ∷ refuses (ascii "vars d\nsym a 1\nmatch a\n\n") 2 23
+    -- "spaces are free": no tab, no CR
+    ∷ refuses (oneText (9 ∷ 97 ∷ [])) 6 19
+    ∷ refuses (oneText (97 ∷ 9 ∷ [])) 6 20
+    ∷ refuses (oneText (97 ∷ 13 ∷ [])) 6 20
     ∷ refuses (ascii "vars d\nsym a 1 d\nmatch a d\n") 5 25
     ∷ refuses (oneText (ascii "abcdefghijklm")) 3 19
     ∷ []
