@@ -1,10 +1,9 @@
 -- A few calls over books that are read, decided by computation from the definitions alone: answers, row counts, tallies, event numbers and
 -- whole buffers. A wrong definition of a call is refused here first, because a fact is false.
 use mathlib.Core.Path.{_≡_, refl}
-use mathlib.Core.Bool.{true, false}
 use mathlib.Core.List.{List, [], _∷_, _++_, map}
 use Prim.Native.Nat.{ℕ}
-use lib.ListN.{replicate, take}
+use lib.ListN.{replicate}
 use Rattle.laws.specs.Bits.{bit, join, meet, single}
 use Rattle.laws.specs.Lists.{numbers}
 use Rattle.laws.specs.Parts.{front, splice, pad}
@@ -21,10 +20,6 @@ use Rattle.form.specs.Parse.{itemOf, nameAtom, closed, alternationFrom, pattern
 use Rattle.form.specs.Reading.{lastLine, matchFrom, readingOf}
 use Rattle.table.specs.Tables.{symbolOf, tableOf, viewSymbol}
 use Rattle.record.specs.Records.{wordAt, argumentsIn, isRecord, eventIn}
-use Rattle.table.specs.declared.Parameter.{Parameter}
-use Rattle.table.specs.declared.Symbol.{Symbol}
-use Rattle.table.specs.declared.Name.{Name}
-use Rattle.slot.specs.declared.Slot.{Slot}
 use Rattle.slot.specs.Slots.{viewSlot, slotOf}
 use Rattle.disjunct.specs.Disjuncts.{viewDisjunct, disjunctOf}
 use Rattle.book.specs.declared.Book.{Book}
@@ -50,7 +45,7 @@ seen m =
     (numberOf (t .answer), t .rows, t .tally .accepted ∷ t .tally .refused ∷ t .tally .rows ∷ [], t .state .number ∷ t .state .count ∷ [], m .buffer)
 
 -- a call over a tally of 5 accepted, 6 refused and 7 rows
-abbrev lending : Bytes → (size place : ℕ) → Call
+abbrev pub lending : Bytes → (size place : ℕ) → Call
 lending bytes size place = event (record { bytes = bytes; buffer = replicate size 255; place = place; tally = record { accepted = 5; refused = 6; rows = 7 } })
 
 -- B1: load(1,7); drop(1) with no space from its place on, then behind the buffer's first 25 bytes; a record that is too short
@@ -81,14 +76,14 @@ unfolding bit join meet single pad matches constraintOf soundBook soundSymbol co
 anchored = refl
 
 -- A pool that is full: 128 disjuncts held of `vars d`, `sym a 1 d`, `match a a`. An event of another kind breaks no room rule and is accepted.
-abbrev one : Book
+abbrev pub one : Book
 one = reading (ascii "vars d\nsym a 1 d\nmatch a a\n") .book
 
-abbrev full : State
+abbrev pub full : State
 full = stateOf (record { number = 128; held = map (λ i. heldAt 1 (bound i ∷ [])) (numbers 0 128) })
 
 -- B2, the variable s of a held disjunct with six exclusions: a seventh is 12, also where 13 would be next
-abbrev two : Book
+abbrev pub two : Book
 two = reading (ascii "vars d s\nsym open 5 d\nsym fill 1 d s\nsym seal 6 d s\nmatch open seal\n") .book
 
 abbrev six : State
@@ -104,134 +99,3 @@ unfolding bit join meet single pad matches constraintOf soundBook soundSymbol co
     slotCounts stateCounts stateSound freshState rowsBy stateBy leavesFreeBy roomBy unsound outOfForm tooMany noRoom noSpace answerTo taken make
     bufferAfter rowBytes wordBytes splice front tallied capped
 room-first = (refl, refl, refl)
-
--- Answer 9, and "Events: 9 to 13 in that order". The book `one` with other names, another symbol table, another number of variables.
-abbrev altered : Book → (variables : ℕ) → List Name → List Symbol → Book
-altered b v ns ys =
-    record {
-      variables = v;
-      symbols = b .symbols;
-      names = ns;
-      table = ys;
-      positions = b .positions;
-      occurrences = b .occurrences;
-      begins = b .begins;
-      ends = b .ends;
-      follows = b .follows;
-      empty = b .empty;
-    }
-
-abbrev named : (first second : Name) → Book
-named x y = altered one 1 (x ∷ y ∷ replicate 18 (record { start = 0; size = 0 })) (one .table)
-
-abbrev at : (start size : ℕ) → Name
-at p n = record { start = p; size = n }
-
-abbrev tagged : ℕ → Book
-tagged t =
-    altered one 1 (one .names)
-    (replicate 16 (record { kind = 1; count = 1; parameters = replicate 4 (record { tag = t; number = 0 }) }))
-
--- `sym a 1`, `match a`, and a variable that it does not bind
-abbrev unbound : Book
-unbound = let b = reading (ascii "vars\nsym a 1\nmatch a\n") .book in altered b 1 (b .names) (b .table)
-
-abbrev idle : ℕ → State
-idle n = stateOf (record { number = n; held = [] })
-
--- one disjunct held whose first variable is as told
-abbrev holding : Slot → State
-holding x =
-    record {
-      number = 1;
-      count = 1;
-      positions = 1 ∷ replicate 127 0;
-      pool = replicate 128 (record { vars = x ∷ replicate 3 (slotOf (free [])) });
-    }
-
-abbrev slot : (counted : ℕ) → Slot
-slot n = record { bound = true; value = 1; count = n; excluded = replicate 6 0 }
-
-abbrev loose : (counted : ℕ) → Slot
-loose n = record { bound = false; value = 0; count = n; excluded = 1 ∷ 2 ∷ 3 ∷ 4 ∷ 5 ∷ 6 ∷ [] }
-
-abbrev number : Book → State → Bytes → ℕ
-number b s bytes = numberOf (make b s (lending bytes 0 1) .taken .answer)
-
-abbrev other : Bytes
-other = 9 ∷ replicate 19 0
-
--- 13 where all is sound (the buffer is too short); 9 for the place of a variable's and of a symbol's name, for a tag, for exclusions at a bound
--- variable, for a seventh that is counted, for a row that would leave a variable free; 9 before 10, 10 before 11, 11 before 12
-pub nine-first :
-    map (λ b. number b (idle 0) other) (named (at 4095 1) (at 0 12) ∷ named (at 4096 1) (at 0 12) ∷ named (at 4095 1) (at 4096 1) ∷ tagged 1 ∷ tagged 2 ∷ [])
-    ++ (map (λ s. number one s other) (holding (slot 0) ∷ holding (slot 1) ∷ holding (loose 6) ∷ holding (loose 7) ∷ [])
-    ++ (number unbound (idle 0) (1 ∷ replicate 19 0) ∷ number unbound (idle 1000000) (1 ∷ replicate 19 0)
-    ∷ number unbound (idle 0) (1 ∷ 0 ∷ 1 ∷ replicate 17 0) ∷ number one (idle 1000001) [] ∷ number one (idle 1000000) []
-    ∷ number two (stateOf (record { number = 1000000; held = heldAt 1 (bound 1 ∷ free (1 ∷ 2 ∷ 3 ∷ 4 ∷ 5 ∷ 6 ∷ []) ∷ []) ∷ [] })) (load 1 7) ∷ []))
-    ≡ (13 ∷ 9 ∷ 9 ∷ 13 ∷ 9 ∷ []) ++ ((13 ∷ 9 ∷ 13 ∷ 9 ∷ []) ++ (9 ∷ 9 ∷ 10 ∷ 9 ∷ 10 ∷ 11 ∷ []))
-unfolding bit join meet single pad matches constraintOf soundBook soundSymbol compareDisjuncts skipBy sources stepSet skipSet newLabel newHeld
-    setRoom room rows leavesFree soundPiece soundHeld soundState spacesEnd wordEnd nameEnd nextWord nameFault kindOf wantWord kindFrom symbolFrom
-    linesOf itemOf nameAtom closed alternationFrom patternFrom lastLine matchFrom readingOf symbolOf tableOf viewSymbol wordAt argumentsIn isRecord
-    eventIn viewSlot slotOf viewDisjunct disjunctOf readingFor bookFor viewBook stateOf heldFirst viewState symbolCounts bookCounts bookSound
-    slotCounts stateCounts stateSound freshState rowsBy stateBy leavesFreeBy roomBy unsound outOfForm tooMany noRoom noSpace answerTo taken make
-    bufferAfter rowBytes wordBytes splice front tallied capped
-nine-first = refl
-
--- What no count reaches is not judged: names, symbols and positions beyond the book's, a symbol's places beyond its own, places of the pool that
--- are not taken, variables beyond the book's, exclusions that are not counted, the value of a free variable. A count beyond its array is 9: 17
--- symbols, 32 positions, 129 disjuncts.
-abbrev wild : ℕ → List Parameter
-wild n = replicate n (record { tag = 7; number = 77 })
-
-abbrev counted : (symbols positions : ℕ) → List Name → List Symbol → List ℕ → List ℕ → Book
-counted y p ns ys os fs =
-    record { variables = 1; symbols = y; names = ns; table = ys; positions = p; occurrences = os; begins = 2; ends = 4; follows = fs; empty = false }
-
-abbrev spare : Book
-spare =
-    counted 1 2 (at 5 1 ∷ at 11 1 ∷ replicate 18 (at 9999 9999))
-    (record { kind = 1; count = 1; parameters = record { tag = 1; number = 0 } ∷ wild 3 } ∷ replicate 15 (record { kind = 999; count = 9; parameters = wild 4 }))
-    (0 ∷ 0 ∷ replicate 29 99) (4 ∷ 0 ∷ replicate 29 1)
-
-abbrev filled : (symbols positions : ℕ) → Book
-filled y p =
-    counted y p (replicate 20 (at 0 1)) (replicate 16 (record { kind = 1; count = 1; parameters = replicate 4 (record { tag = 1; number = 0 }) })) (replicate 31 0)
-    (4 ∷ replicate 30 0)
-
-abbrev unusable : Slot
-unusable = record { bound = true; value = 77; count = 9; excluded = replicate 6 9 }
-
-abbrev spareState : State
-spareState =
-    record {
-      number = 1;
-      count = 1;
-      positions = 1 ∷ replicate 127 99;
-      pool = record { vars = record { bound = false; value = 77; count = 2; excluded = 3 ∷ 8 ∷ replicate 4 1 } ∷ replicate 3 unusable }
-          ∷ replicate 127 (record { vars = replicate 4 unusable });
-    }
-
-abbrev holdsMany : (counted : ℕ) → State
-holdsMany n = record { number = 1; count = n; positions = full .positions; pool = full .pool }
-
-pub counted-only :
-    number spare spareState other ∷ number (filled 16 31) (idle 0) other ∷ number (filled 17 31) (idle 0) other ∷ number (filled 16 32) (idle 0) other
-    ∷ number one (holdsMany 128) other ∷ number one (holdsMany 129) other ∷ []
-    ≡ 13 ∷ 13 ∷ 9 ∷ 9 ∷ 13 ∷ 9 ∷ []
-unfolding bit join meet single pad matches constraintOf soundBook soundSymbol compareDisjuncts skipBy sources stepSet skipSet newLabel newHeld
-    setRoom room rows leavesFree soundPiece soundHeld soundState spacesEnd wordEnd nameEnd nextWord nameFault kindOf wantWord kindFrom symbolFrom
-    linesOf itemOf nameAtom closed alternationFrom patternFrom lastLine matchFrom readingOf symbolOf tableOf viewSymbol wordAt argumentsIn isRecord
-    eventIn viewSlot slotOf viewDisjunct disjunctOf readingFor bookFor viewBook stateOf heldFirst viewState symbolCounts bookCounts bookSound
-    slotCounts stateCounts stateSound freshState rowsBy stateBy leavesFreeBy roomBy unsound outOfForm tooMany noRoom noSpace answerTo taken make
-    bufferAfter rowBytes wordBytes splice front tallied capped
-counted-only = refl
-
--- "Held disjuncts stand by position, …": what is held stands in the first places of the pool, in its order, the others are free
-abbrev kept : State
-kept = stateOf (record { number = 3; held = heldAt 1 (free (7 ∷ 8 ∷ []) ∷ []) ∷ heldAt 2 (bound 5 ∷ []) ∷ [] })
-
-pub stored : (take 3 (kept .positions) ≡ 1 ∷ 2 ∷ 0 ∷ [])
-    × (map (λ d. take 2 (viewDisjunct d)) (take 3 (kept .pool)) ≡ (free (7 ∷ 8 ∷ []) ∷ free [] ∷ []) ∷ (bound 5 ∷ free [] ∷ []) ∷ (free [] ∷ free [] ∷ []) ∷ [])
-unfolding stateOf pad disjunctOf slotOf viewDisjunct viewSlot
-stored = (refl, refl)
