@@ -86,6 +86,13 @@ pub sound-states : map (soundState pairs)
 unfolding soundState soundHeld soundPiece compareDisjuncts
 sound-states = refl
 
+-- each of two variables is judged
+pub sound-entries : map (λ D. soundPiece (book 2 [] (0 ∷ []) 0 0 [] false) (heldAt 1 D))
+    ((bound 1 ∷ free (7 ∷ 8 ∷ []) ∷ []) ∷ (bound 1 ∷ free (8 ∷ 7 ∷ []) ∷ []) ∷ (free (8 ∷ 7 ∷ []) ∷ bound 1 ∷ []) ∷ [])
+    ≡ true ∷ false ∷ false ∷ []
+unfolding soundPiece
+sound-entries = refl
+
 -- "No room, exactly", at 128: one disjunct ends and one comes; a step set of 128; 129 meetings that are one disjunct; 129 exclusions that are 86
 -- disjuncts; four exclusions at each of two variables. Then: a step set of 129, and a seventh exclusion, at a position that nothing follows.
 abbrev two : ℕ → List Symbol → Book
@@ -153,14 +160,20 @@ each-set = (refl, refl, refl, refl, refl)
 
 -- "a row that would leave a variable free": by any of the variables, with exclusions or without, from a held disjunct and from the start, at an
 -- ending position; not where all are bound, and not at a position that ends no word
+-- of two ending positions one leaves s free
+abbrev one-of : Book
+one-of =
+    book 2 (symbol 1 (names 0 ∷ []) ∷ symbol 2 (names 1 ∷ []) ∷ symbol 2 (ignored ∷ []) ∷ []) (0 ∷ 1 ∷ 2 ∷ []) 2 12 (12 ∷ 0 ∷ 0 ∷ []) false
+
 pub left-free : map (λ h. leavesFree (two 2 apart) h (record { kind = 2; args = 4 ∷ [] }))
     ((heldAt 1 (bound 3 ∷ free [] ∷ []) ∷ [])
     ∷ (heldAt 1 (free (1 ∷ []) ∷ bound 4 ∷ []) ∷ [])
     ∷ (heldAt 1 (bound 3 ∷ bound 4 ∷ []) ∷ heldAt 1 (free [] ∷ free [] ∷ []) ∷ [])
     ∷ [])
     ++ (leavesFree (two 4 apart) [] (record { kind = 2; args = 4 ∷ [] }) ∷ leavesFree (two 2 (symbol 1 (names 0 ∷ []) ∷ symbol 2 (names 0 ∷ []) ∷ []))
-    (heldAt 1 (bound 4 ∷ free (2 ∷ []) ∷ []) ∷ []) (record { kind = 2; args = 4 ∷ [] }) ∷ leavesFree (two 2 apart) [] (record { kind = 1; args = 4 ∷ [] }) ∷ [])
-    ≡ false ∷ true ∷ true ∷ true ∷ true ∷ false ∷ []
+    (heldAt 1 (bound 4 ∷ free (2 ∷ []) ∷ []) ∷ []) (record { kind = 2; args = 4 ∷ [] }) ∷ leavesFree (two 2 apart) [] (record { kind = 1; args = 4 ∷ [] })
+    ∷ leavesFree one-of (heldAt 1 (bound 3 ∷ free [] ∷ []) ∷ []) (record { kind = 2; args = 4 ∷ [] }) ∷ [])
+    ≡ false ∷ true ∷ true ∷ true ∷ true ∷ false ∷ true ∷ []
 unfolding bit matches constraintOf sources leavesFree
 left-free = refl
 

@@ -163,6 +163,11 @@ variables =
     -- "then a to z or 0 to 9": no capital, no `_`
     ∷ refuses (ascii "vars aB\n") 2 5
     ∷ refuses (ascii "vars a_b\n") 2 5
+    -- the bytes beside a, z, 0 and 9
+    ∷ refuses (ascii "vars a" ++ (96 ∷ 10 ∷ [])) 2 5
+    ∷ refuses (ascii "vars a" ++ (123 ∷ 10 ∷ [])) 2 5
+    ∷ refuses (ascii "vars a" ++ (47 ∷ 10 ∷ [])) 2 5
+    ∷ refuses (ascii "vars a" ++ (58 ∷ 10 ∷ [])) 2 5
     ∷ refuses (ascii "varsx\n") 2 0
     -- a byte of no name: CR, NUL, one from 128 on; a tab is no space
     ∷ refuses (ascii "vars a" ++ (13 ∷ 10 ∷ [])) 2 5
