@@ -6,7 +6,7 @@ use tally::Tally;
 ghost use Prim.Native.Nat.{_<_, _≤_};
 
 // A row and an event record, how much of the output is gathered before it is written, and the longest number.
-const ROW_BYTES: usize = 24;
+const ROW_BYTES: usize = row::ROW;
 
 const RECORD_BYTES: usize = 20;
 
