@@ -153,7 +153,8 @@ pub each-set :
     (room fork (map (λ x. heldAt 1 (bound x ∷ free [] ∷ [])) (numbers 0 65)) (record { kind = 2; args = 7 ∷ 8 ∷ [] }) ≡ true)
     × (length (rows fork (map (λ x. heldAt 1 (bound x ∷ free [] ∷ [])) (numbers 0 65)) (record { kind = 2; args = 7 ∷ 8 ∷ [] })) ≡ 130)
     × (room twice (loose 1 ++ loose 2) (record { kind = 1; args = 1 ∷ 900 ∷ [] }) ≡ true)
-    × (room row-on (heldAt 1 (bound 5 ∷ free [] ∷ []) ∷ map (λ x. heldAt 2 (bound 1 ∷ bound x ∷ [])) (numbers 0 127)) (record { kind = 2; args = 1 ∷ [] }) ≡ true)
+    × (room row-on (heldAt 1 (bound 5 ∷ free [] ∷ []) ∷ map (λ x. heldAt 2 (bound 1 ∷ bound x ∷ [])) (numbers 0 127))
+    (record { kind = 2; args = 1 ∷ [] }) ≡ true)
     × (room unnamed-first (heldAt 1 (free (1 ∷ 2 ∷ 3 ∷ 4 ∷ 5 ∷ 6 ∷ []) ∷ []) ∷ []) (record { kind = 2; args = 7 ∷ [] }) ≡ true)
 unfolding bit matches constraintOf compareDisjuncts skipBy sources stepSet skipSet newLabel newHeld setRoom room rows
 each-set = (refl, refl, refl, refl, refl)

@@ -1,14 +1,14 @@
 // What document 01 says that an event call leaves: the answer, the count of rows, the state, the tally and the buffer. Written by hand
 // from the document for the events of moves.rt, without any code of the watch.
-use crate::amounts;
 use crate::lending::Kinds;
 use crate::lending::Space;
 use crate::moves::Move;
-use crate::records;
-use crate::sizes::BUFFER;
-use crate::sizes::MOST_EVENTS;
-use crate::sizes::ROW_BYTES;
-use crate::states;
+use corrupted::amounts;
+use corrupted::records;
+use corrupted::sizes::BUFFER;
+use corrupted::sizes::MOST_EVENTS;
+use corrupted::sizes::ROW_BYTES;
+use corrupted::states;
 use state::State;
 use tally::Tally;
 

@@ -1,14 +1,14 @@
 // What is lent to the event call in one case, drawn from the seed of the case: which kinds of damage there are, the book, the state, the
 // record, the tally, and the buffer with the place from which rows go into it.
-use crate::amounts;
-use crate::books;
 use crate::moves::Move;
-use crate::records;
-use crate::records::Lent;
-use crate::sizes::BUFFER;
-use crate::sizes::ROW_BYTES;
-use crate::states;
 use book::Book;
+use corrupted::amounts;
+use corrupted::books;
+use corrupted::records;
+use corrupted::records::Lent;
+use corrupted::sizes::BUFFER;
+use corrupted::sizes::ROW_BYTES;
+use corrupted::states;
 use state::State;
 use tally::Tally;
 

@@ -1,22 +1,19 @@
 // Damaged books, states, records, places, buffers and tallies, from a generator with a fixed start, are lent to the event call, and all
 // that it leaves is compared with what document 01 says. Prints how many cases there were, how they were answered, and the differences.
-mod amounts;
-mod books;
 mod leaving;
 mod lending;
 mod moves;
-mod records;
-mod same;
-mod sizes;
-mod states;
 
 use book::Book;
+use corrupted::amounts;
+use corrupted::records;
+use corrupted::records::Lent;
+use corrupted::sizes::BUFFER;
+use corrupted::sizes::RECORD_ROOM;
+use corrupted::sizes::ROW_BYTES;
+use corrupted::states;
 use leaving::Left;
 use lending::Space;
-use records::Lent;
-use sizes::BUFFER;
-use sizes::RECORD_ROOM;
-use sizes::ROW_BYTES;
 use state::State;
 use tally::Tally;
 use watch::Taken;
@@ -66,9 +63,9 @@ fn as_told(r: Taken, l: Left, book: Book) -> bool {
     let tally = l.tally;
     (watch::number_of(a) == l.answer)
         & (r.rows == l.rows)
-        & same::tallies(t, tally)
-        & same::books(b, book)
-        & same::states(s, state)
+        & equality::tallies(t, tally)
+        & equality::books(b, book)
+        & equality::states(s, state)
 }
 
 fn scored(score: Score, answer: usize, good: bool) -> Score {
@@ -116,7 +113,7 @@ fn one(seed: u64, read: Book, score: Score) -> Score {
     let want = leaving::buffer_after(rows, l.rows, m, s.place);
     let r = call(book, state, lent, &mut rows, s, tally);
     let a = r.answer;
-    let good = as_told(r, l, book) & same::bytes(rows, want);
+    let good = as_told(r, l, book) & check::same(&rows, &want);
     scored(score, watch::number_of(a), good)
 }
 
@@ -147,7 +144,7 @@ fn reached(book: Book) -> bool {
     let z = after(book, z, 1, 2, 1, 59);
     let a = states::clean(h);
     let b = states::clean(k);
-    same::states(s, a) & same::states(z, b)
+    equality::states(s, a) & equality::states(z, b)
 }
 
 fn line(n: u32, word: &[u8]) {

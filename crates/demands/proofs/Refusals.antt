@@ -126,13 +126,14 @@ counted y p ns ys os fs =
 abbrev spare : Book
 spare =
     counted 1 2 (at 5 1 ∷ at 11 1 ∷ replicate 18 (at 9999 9999))
-    (record { kind = 1; count = 1; parameters = record { tag = 1; number = 0 } ∷ wild 3 } ∷ replicate 15 (record { kind = 999; count = 9; parameters = wild 4 }))
+    (record { kind = 1; count = 1; parameters = record { tag = 1; number = 0 } ∷ wild 3 }
+    ∷ replicate 15 (record { kind = 999; count = 9; parameters = wild 4 }))
     (0 ∷ 0 ∷ replicate 29 99) (4 ∷ 0 ∷ replicate 29 1)
 
 abbrev filled : (symbols positions : ℕ) → Book
 filled y p =
-    counted y p (replicate 20 (at 0 1)) (replicate 16 (record { kind = 1; count = 1; parameters = replicate 4 (record { tag = 1; number = 0 }) })) (replicate 31 0)
-    (4 ∷ replicate 30 0)
+    counted y p (replicate 20 (at 0 1)) (replicate 16 (record { kind = 1; count = 1; parameters = replicate 4 (record { tag = 1; number = 0 }) }))
+    (replicate 31 0) (4 ∷ replicate 30 0)
 
 abbrev unusable : Slot
 unusable = record { bound = true; value = 77; count = 9; excluded = replicate 6 9 }

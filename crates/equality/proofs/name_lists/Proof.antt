@@ -1,14 +1,14 @@
--- `damage::same::symbols` is safe and ends: the turns are counted.
+-- `equality::name_lists` is safe and ends: the turns are counted.
 use Prim.Native.Nat.{_-_, _≤_}
 use borrow.Author.Needs.{needs}
-use Rattle.damage.proofs.same.symbols.Statement.{statement}
-use Rattle.damage.proofs.same.symbols.Tie as tie
+use Rattle.equality.proofs.name_lists.Statement.{statement}
+use Rattle.equality.proofs.name_lists.Tie as tie
 
 abbrev Inv-loop : tie.InvT-loop
-Inv-loop a b r₀ i₀ r i = i ≤ 4
+Inv-loop a b r₀ i₀ r i = i ≤ 20
 
 abbrev μ-loop : tie.MeasureT-loop
-μ-loop a b r₀ i₀ r i = 4 - i
+μ-loop a b r₀ i₀ r i = 20 - i
 
 loop-holds : tie.Need-loop-holds Inv-loop μ-loop
 loop-holds c = search needs
@@ -16,14 +16,14 @@ loop-holds c = search needs
 mul-x : tie.Need-mul-x Inv-loop μ-loop
 mul-x c = search needs
 
-element-copy-out-x : tie.Need-element-copy-out-x Inv-loop μ-loop
-element-copy-out-x c = search needs
+array-copy-out-x : tie.Need-array-copy-out-x Inv-loop μ-loop
+array-copy-out-x c = search needs
 
 mul-y : tie.Need-mul-y Inv-loop μ-loop
 mul-y c = search needs
 
-element-copy-out-y : tie.Need-element-copy-out-y Inv-loop μ-loop
-element-copy-out-y c = search needs
+array-copy-out-y : tie.Need-array-copy-out-y Inv-loop μ-loop
+array-copy-out-y c = search needs
 
 add-i : tie.Need-add-i Inv-loop μ-loop
 add-i c = search needs
@@ -37,17 +37,17 @@ loop-again c = search needs
 returns : tie.Need-returns Inv-loop μ-loop
 returns c = search needs
 
-pub symbols-spec : {M : Type 1} → statement M
-symbols-spec =
+pub name-lists-spec : {M : Type 1} → statement M
+name-lists-spec =
     tie.close
     (tie.spec
     Inv-loop
     μ-loop
     loop-holds
     mul-x
-    element-copy-out-x
+    array-copy-out-x
     mul-y
-    element-copy-out-y
+    array-copy-out-y
     add-i
     loop-less
     loop-again

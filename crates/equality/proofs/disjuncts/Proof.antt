@@ -1,8 +1,8 @@
--- `damage::same::disjuncts` is safe and ends: the turns are counted.
+-- `equality::disjuncts` is safe and ends: the turns are counted.
 use Prim.Native.Nat.{_-_, _≤_}
 use borrow.Author.Needs.{needs}
-use Rattle.damage.proofs.same.disjuncts.Statement.{statement}
-use Rattle.damage.proofs.same.disjuncts.Tie as tie
+use Rattle.equality.proofs.disjuncts.Statement.{statement}
+use Rattle.equality.proofs.disjuncts.Tie as tie
 
 abbrev Inv-loop : tie.InvT-loop
 Inv-loop a b r₀ i₀ r i = i ≤ 4

@@ -1,14 +1,14 @@
--- `damage::same::name_lists` is safe and ends: the turns are counted.
+-- `equality::tables` is safe and ends: the turns are counted.
 use Prim.Native.Nat.{_-_, _≤_}
 use borrow.Author.Needs.{needs}
-use Rattle.damage.proofs.same.name_lists.Statement.{statement}
-use Rattle.damage.proofs.same.name_lists.Tie as tie
+use Rattle.equality.proofs.tables.Statement.{statement}
+use Rattle.equality.proofs.tables.Tie as tie
 
 abbrev Inv-loop : tie.InvT-loop
-Inv-loop a b r₀ i₀ r i = i ≤ 20
+Inv-loop a b r₀ i₀ r i = i ≤ 16
 
 abbrev μ-loop : tie.MeasureT-loop
-μ-loop a b r₀ i₀ r i = 20 - i
+μ-loop a b r₀ i₀ r i = 16 - i
 
 loop-holds : tie.Need-loop-holds Inv-loop μ-loop
 loop-holds c = search needs
@@ -25,6 +25,9 @@ mul-y c = search needs
 array-copy-out-y : tie.Need-array-copy-out-y Inv-loop μ-loop
 array-copy-out-y c = search needs
 
+symbols-requires : tie.Need-symbols-requires Inv-loop μ-loop
+symbols-requires c κs = search needs
+
 add-i : tie.Need-add-i Inv-loop μ-loop
 add-i c = search needs
 
@@ -37,8 +40,8 @@ loop-again c = search needs
 returns : tie.Need-returns Inv-loop μ-loop
 returns c = search needs
 
-pub name-lists-spec : {M : Type 1} → statement M
-name-lists-spec =
+pub tables-spec : {M : Type 1} → statement M
+tables-spec =
     tie.close
     (tie.spec
     Inv-loop
@@ -48,6 +51,7 @@ name-lists-spec =
     array-copy-out-x
     mul-y
     array-copy-out-y
+    symbols-requires
     add-i
     loop-less
     loop-again

@@ -1,10 +1,10 @@
--- `damage::states::beyond` is safe and ends: the index is counted up to 6.
+-- `corrupted::states::beyond` is safe and ends: the index is counted up to 6.
 use Prim.Native.Nat.{_-_}
 use mathlib.Core.Path.{_≡_}
 use lib.ListN.{length}
 use borrow.Author.Needs.{needs}
-use Rattle.damage.proofs.states.beyond.Statement.{statement}
-use Rattle.damage.proofs.states.beyond.Tie as tie
+use Rattle.corrupted.proofs.states.beyond.Statement.{statement}
+use Rattle.corrupted.proofs.states.beyond.Tie as tie
 
 abbrev Inv-loop : tie.InvT-loop
 Inv-loop n x r₀ i₀ r i = length r ≡ 6

@@ -1,8 +1,8 @@
--- `damage::same::words` is safe and ends: the turns are counted.
+-- `equality::words` is safe and ends: the turns are counted.
 use Prim.Native.Nat.{_-_, _≤_}
 use borrow.Author.Needs.{needs}
-use Rattle.damage.proofs.same.words.Statement.{statement}
-use Rattle.damage.proofs.same.words.Tie as tie
+use Rattle.equality.proofs.words.Statement.{statement}
+use Rattle.equality.proofs.words.Tie as tie
 
 abbrev Inv-loop : tie.InvT-loop
 Inv-loop a b r₀ i₀ r i = i ≤ 31

@@ -1,17 +1,29 @@
--- `damage::same::slots` is safe and ends: the turns are counted.
+-- `equality::states` is safe and ends: the turns are counted.
 use Prim.Native.Nat.{_-_, _≤_}
 use borrow.Author.Needs.{needs}
-use Rattle.damage.proofs.same.slots.Statement.{statement}
-use Rattle.damage.proofs.same.slots.Tie as tie
+use Rattle.equality.proofs.states.Statement.{statement}
+use Rattle.equality.proofs.states.Tie as tie
 
 abbrev Inv-loop : tie.InvT-loop
-Inv-loop a b r₀ i₀ r i = i ≤ 6
+Inv-loop a b r₀ i₀ r i = i ≤ 128
 
 abbrev μ-loop : tie.MeasureT-loop
-μ-loop a b r₀ i₀ r i = 6 - i
+μ-loop a b r₀ i₀ r i = 128 - i
 
 loop-holds : tie.Need-loop-holds Inv-loop μ-loop
 loop-holds c = search needs
+
+mul-d : tie.Need-mul-d Inv-loop μ-loop
+mul-d c = search needs
+
+element-copy-out-d : tie.Need-element-copy-out-d Inv-loop μ-loop
+element-copy-out-d c = search needs
+
+mul-e : tie.Need-mul-e Inv-loop μ-loop
+mul-e c = search needs
+
+element-copy-out-e : tie.Need-element-copy-out-e Inv-loop μ-loop
+element-copy-out-e c = search needs
 
 mul-r : tie.Need-mul-r Inv-loop μ-loop
 mul-r c = search needs
@@ -25,6 +37,9 @@ mul-r-2 c = search needs
 element-copy-out-r-2 : tie.Need-element-copy-out-r-2 Inv-loop μ-loop
 element-copy-out-r-2 c = search needs
 
+disjuncts-requires : tie.Need-disjuncts-requires Inv-loop μ-loop
+disjuncts-requires c κs = search needs
+
 add-i : tie.Need-add-i Inv-loop μ-loop
 add-i c = search needs
 
@@ -37,17 +52,22 @@ loop-again c = search needs
 returns : tie.Need-returns Inv-loop μ-loop
 returns c = search needs
 
-pub slots-spec : {M : Type 1} → statement M
-slots-spec =
+pub states-spec : {M : Type 1} → statement M
+states-spec =
     tie.close
     (tie.spec
     Inv-loop
     μ-loop
     loop-holds
+    mul-d
+    element-copy-out-d
+    mul-e
+    element-copy-out-e
     mul-r
     element-copy-out-r
     mul-r-2
     element-copy-out-r-2
+    disjuncts-requires
     add-i
     loop-less
     loop-again

@@ -1,30 +1,19 @@
-// Whether two books, states, tallies or buffers are the same in every field and every place of every array. No comparison branches: each
-// branch would cost the check of the program more than the run of the rest costs.
-use crate::sizes::ARGUMENTS;
-use crate::sizes::BUFFER;
-use crate::sizes::CAPACITY;
-use crate::sizes::EXCLUSIONS;
-use crate::sizes::NAMES;
-use crate::sizes::POSITIONS;
-use crate::sizes::SYMBOLS;
-use crate::sizes::VARIABLES;
+// Whether two books, states or tallies are equal in every field and every place of every array. For the program `damage`. No comparison
+// branches: each branch would cost the check more than the run of the rest costs.
 use book::Book;
 use disjunct::Disjunct;
+use piece::POSITIONS;
+use slot::EXCLUSIONS;
 use slot::Slot;
+use state::CAPACITY;
 use state::State;
+use table::NAMES;
 use table::Name;
+use table::PARAMETERS;
+use table::SYMBOLS;
 use table::Symbol;
+use table::VARIABLES;
 use tally::Tally;
-
-pub fn bytes(a: [u8; BUFFER], b: [u8; BUFFER]) -> bool {
-    let mut r = true;
-    let mut i: usize = 0;
-    while i < BUFFER {
-        r = r & (a[i] == b[i]);
-        i += 1;
-    }
-    r
-}
 
 pub fn tallies(a: Tally, b: Tally) -> bool {
     (a.accepted == b.accepted) & (a.refused == b.refused) & (a.rows == b.rows)
@@ -96,7 +85,7 @@ fn tables(a: [Symbol; SYMBOLS], b: [Symbol; SYMBOLS]) -> bool {
 fn symbols(a: Symbol, b: Symbol) -> bool {
     let mut r = (a.kind == b.kind) & (a.count == b.count);
     let mut i: usize = 0;
-    while i < ARGUMENTS {
+    while i < PARAMETERS {
         let x = a.parameters[i];
         let y = b.parameters[i];
         r = r & (x.tag == y.tag) & (x.number == y.number);
