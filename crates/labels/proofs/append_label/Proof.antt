@@ -48,9 +48,13 @@ add-i c = search needs
 loop-less : tie.Need-loop-less Inv-loop μ-loop
 loop-less c = search needs
 
+-- the beginning, before the loop
+abbrev begun : tie.At-loop Inv-loop μ-loop → tie.Start Inv-loop μ-loop
+begun c = c .before .before .before .before .before
+
 loop-again : tie.Need-loop-again Inv-loop μ-loop
 loop-again c =
-    let s = c .before .before .before .before .before .before in
+    let s = begun (c .before) in
     let a = s .args in
     let l = c .before .loop in (
       omega arith,
@@ -66,7 +70,7 @@ same-length c = search needs
 
 returns-2 : tie.Need-returns-2 Inv-loop μ-loop
 returns-2 c =
-    let s = c .before .before .before .before .before .before in
+    let s = begun (c .before) in
     let a = s .args in
     let l = c .before .loop in
     let all : l .i ≡ a .m = omega arith in

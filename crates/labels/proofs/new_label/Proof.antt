@@ -46,23 +46,38 @@ cast-label c = search needs
 label-requires : tie.Need-label-requires
 label-requires c κs = search needs
 
+-- the stops before the old label is read: the step set, and the beginning
+abbrev stepped : tie.After-label → tie.After-step-set
+stepped c = c .before .before .before
+
+abbrev begun : tie.After-label → tie.Start
+begun c = stepped c .before .before .before
+
 skip-through-requires : tie.Need-skip-through-requires
 skip-through-requires c κs =
-    let s = c .before .before .before .before .before .before .before .before in
-    let l = c .before .before .label .ensures in
-    (omega arith, s .pre .1, ap (ascending compareDisjuncts) (l .1) ∙ s .pre .5, s .pre .4)
+    let l = c .before .before in
+    let s = begun l in
+    (omega arith, s .pre .1, ap (ascending compareDisjuncts) (l .label .ensures .1) ∙ s .pre .5, s .pre .4)
+
+-- the old label is read before it is taken through the symbols
+abbrev labelled : tie.After-skip-through → tie.After-label
+labelled c = c .before .before .before
+
+-- and that is done before what follows the position counts
+abbrev skipped : tie.Else3 → tie.After-skip-through
+skipped c = c .before .before .before
 
 -- the skip set is that of the old label
-skip-told : (t : tie.After-skip-through) → let s = t .before .before .before .before .before .before .before .before .before in
+skip-told : (t : tie.After-skip-through) → let s = begun (labelled t) in
     grownIn (t .skip-through .result) (t .skip-through .last .0) ≡ skippedThrough (constraints s) (pick (eqb (s .args .q .number)) (places s) (disjuncts s))
 skip-told t =
-    let s = t .before .before .before .before .before .before .before .before .before in
-    t .skip-through .ensures ∙ ap (skippedThrough (constraints s)) (t .before .before .before .label .ensures .1)
+    let l = labelled t in
+    t .skip-through .ensures ∙ ap (skippedThrough (constraints (begun l))) (l .label .ensures .1)
 
 returns-2 : tie.Need-returns-2
 returns-2 c =
     let t = c .before in
-    let s = t .before .before .before .before .before .before .before .before .before in
+    let s = begun (labelled t) in
     let q = s .args .q in
     skip-over (viewConstraint (q .constraint)) (constraints s) (q .begins) (q .number) (places s) (masks s) (disjuncts s) _ (t .skip-through .result)
     (t .skip-through .last .0) _ (skip-told t) (c .if2 .taken)
@@ -70,31 +85,33 @@ returns-2 c =
 returns-3 : tie.Need-returns-3
 returns-3 c =
     let t = c .before .before .before in
-    let s = t .before .before .before .before .before .before .before .before .before in
+    let l = labelled t in
+    let s = begun l in
     let q = s .args .q in
-    let m = t .before .before .before .before .before .before .step-set in
+    let m = stepped l .step-set in
     label-none (viewConstraint (q .constraint)) (constraints s) (q .begins) (q .number) (places s) (masks s) (disjuncts s) (m .result)
     (t .skip-through .result) (m .last .1 .1 .1 .1 .1 .1 .0) (t .skip-through .last .0) (m .ensures) (skip-told t)
-    (t .before .before .before .before .before .if1 .left) (c .before .before .if2 .left) (q .follows) _ (c .if3 .taken)
+    (l .before .before .if1 .left) (c .before .before .if2 .left) (q .follows) _ (c .if3 .taken)
 
 join-requires : tie.Need-join-requires
 join-requires c κs =
-    let t = c .before .before .before .before .before in
-    let m = t .before .before .before .before .before .before .step-set in
-    let h = t .before .before .before .before .before .if1 .left in
+    let l = labelled (skipped (c .before .before)) in
+    let m = stepped l .step-set in
+    let h = l .before .before .if1 .left in
     let k = step-ascending _ _ (m .result) (m .last .1 .1 .1 .1 .1 .1 .0) (m .ensures) h in
     search needs
 
 returns-4 : tie.Need-returns-4
 returns-4 c =
-    let t = c .before .before .before .before .before .before in
-    let s = t .before .before .before .before .before .before .before .before .before in
+    let f = c .before .before .before in
+    let t = skipped f in
+    let l = labelled t in
+    let s = begun l in
     let q = s .args .q in
-    let m = t .before .before .before .before .before .before .step-set in
+    let m = stepped l .step-set in
     label-joined (viewConstraint (q .constraint)) (constraints s) (q .begins) (q .number) (places s) (masks s) (disjuncts s) (m .result)
     (t .skip-through .result) (m .last .1 .1 .1 .1 .1 .1 .0) (t .skip-through .last .0) (m .ensures) (skip-told t)
-    (t .before .before .before .before .before .if1 .left) (c .before .before .before .before .before .if2 .left) (q .follows) (c .join .result) _
-    (c .before .before .before .if3 .left) (c .join .ensures)
+    (l .before .before .if1 .left) (f .before .before .if2 .left) (q .follows) (c .join .result) _ (f .if3 .left) (c .join .ensures)
 
 pub new-label-spec : {M : Type 1} → statement M
 new-label-spec =
