@@ -68,28 +68,35 @@ rows-of-requires c κs =
 abbrev words : (c : tie.After-rows-of Inv-loop μ-loop) → List ℕ
 words c = c .rows-of .last .1 .1 .1 .1 .1 .1 .1 .0
 
+-- the stops before a position gives its rows: the turn that it stands in, and the beginning
+abbrev turn : tie.After-rows-of Inv-loop μ-loop → tie.In-loop Inv-loop μ-loop
+turn c = c .before .before .before .before
+
+abbrev begun : tie.After-rows-of Inv-loop μ-loop → tie.Start Inv-loop μ-loop
+begun c = turn c .before .before
+
 -- the rows of the positions ahead, by the first of them
-turned : (c : tie.After-rows-of Inv-loop μ-loop) (e : Event) → let p = c .before .before .before .before .before .loop in
-    let a = c .before .before .before .before .before .before .args in let r = rowsAhead (a .t1) (a .n) (a .at .now) (a .held .now) e in
+turned : (c : tie.After-rows-of Inv-loop μ-loop) (e : Event) → let p = turn c .before .loop in
+    let a = begun c .args in let r = rowsAhead (a .t1) (a .n) (a .at .now) (a .held .now) e in
     Agree (a .t1) (a .t2) e
     → r (p .i + 1) (rowsGrown (c .rows-of .result) (words c))
     ≡ within rowLimit (rows (wideBook (viewBook (a .t1))) (heldIn (a .n) (a .at .now) (a .held .now)) e)
 turned c e m =
-    let p = c .before .before .before .before .before .loop in
-    let s = c .before .before .before .before .before .before in
+    let p = turn c .before .loop in
+    let s = begun c in
     let a = s .args in
     let given : rowsGrown (c .rows-of .result) (words c)
     ≡ rowsWith (viewConstraint (constraintAt (a .t1) (a .t2) (p .i))) (sourcesOf (a .t1) (a .n) (a .masks .now) (a .held .now) (p .i + 1))
     (listed (p .m) (p .out)) =
     c .rows-of .ensures in
     ap (rowsAhead (a .t1) (a .n) (a .at .now) (a .held .now) e (p .i + 1)) given
-    ∙ sym (rows-turn (known s) (a .held .now) e (p .i) (a .t2) m (listed (p .m) (p .out)) (c .before .before .before .before .loop-test .taken))
+    ∙ sym (rows-turn (known s) (a .held .now) e (p .i) (a .t2) m (listed (p .m) (p .out)) (turn c .loop-test .taken))
     ∙ p .inv .2 e m
 
 returns : tie.Need-returns Inv-loop μ-loop
 returns c e m =
-    let p = c .before .before .before .before .before .before .loop in
-    let a = c .before .before .before .before .before .before .before .args in
+    let p = turn (c .before) .before .loop in
+    let a = begun (c .before) .args in
     let v = words (c .before) in
     in-full 2065 v (omega arith) ∙ sym (rows-over (a .t1) (a .n) (a .at .now) (a .held .now) e (p .i + 1))
     ∙ ap (rowsAhead (a .t1) (a .n) (a .at .now) (a .held .now) e (p .i + 1)) (sym (in-full (c .before .rows-of .result) v (c .if1 .taken)))
@@ -103,8 +110,8 @@ loop-less c = search needs
 
 loop-again : tie.Need-loop-again Inv-loop μ-loop
 loop-again c =
-    let p = c .before .before .before .before .before .before .loop in
-    let a = c .before .before .before .before .before .before .before .args in
+    let p = turn (c .before) .before .loop in
+    let a = begun (c .before) .args in
     let r = c .before .rows-of .result in
     let v = words (c .before) in (
       omega arith,

@@ -111,40 +111,52 @@ has-requires c κs = search needs
 get-requires : tie.Need-get-requires Inv-loop μ-loop
 get-requires c κs = search needs
 
+-- the stops before a mask is tested: the head of the loop, and the start of the function
+abbrev head : tie.After-has Inv-loop μ-loop → tie.At-loop Inv-loop μ-loop
+head c = c .before .before .before
+
+abbrev start : tie.After-has Inv-loop μ-loop → tie.Start Inv-loop μ-loop
+start c = head c .before .before
+
 add-row-requires-2 : tie.Need-add-row-requires-2 Inv-loop μ-loop
 add-row-requires-2 c κs =
-    let p = c .before .before .before .before .before .before .loop .inv .1 in
-    (p .few, c .before .before .before .before .before .before .before .before .pre .3, p .order)
+    let t = c .before .before .before in
+    let p = head t .loop .inv .1 in
+    (p .few, start t .pre .3, p .order)
 
 -- the disjuncts ahead, by the first of them
-next : (c : tie.After-has Inv-loop μ-loop) {t : Bool} → c .has .result ≡ t → let a = c .before .before .before .before .before .args in
-    let i = c .before .before .before .loop .i in let r = ahead (a .q) (a .masks .now) (disjunctsIn (a .held .now)) (a .n) in
+next : (c : tie.After-has Inv-loop μ-loop) {t : Bool} → c .has .result ≡ t → let a = start c .args in
+    let i = head c .loop .i in let r = ahead (a .q) (a .masks .now) (disjunctsIn (a .held .now)) (a .n) in
     r i ≡ cond t (getD (disjunctsIn (a .held .now)) i [] ∷ r (i + 1)) (r (i + 1))
 next c e =
-    let s = c .before .before .before .before .before in
+    let s = start c in
     let a = s .args in
-    ahead-next (a .q) (a .masks .now) (disjunctsIn (a .held .now)) (a .n) (c .before .before .before .loop .i)
+    ahead-next (a .q) (a .masks .now) (disjunctsIn (a .held .now)) (a .n) (head c .loop .i)
     (omega (arith, s .pre .0, in-length (a .held .now))) (c .before .before .loop-test .taken) (sym (c .has .ensures) ∙ e)
 
+-- the mask is tested before a row is put
+abbrev tested : tie.After-add-row2 Inv-loop μ-loop → tie.After-has Inv-loop μ-loop
+tested c = c .before .before .before .before
+
 -- the row of the first of them
-next-put : (c : tie.After-add-row2 Inv-loop μ-loop) → let p = c .before .before .before .before .before .before .before .loop in
-    let a = c .before .before .before .before .before .before .before .before .before .args in
+next-put : (c : tie.After-add-row2 Inv-loop μ-loop) → let p = head (tested c) .loop in
+    let a = start (tested c) .args in
     rowsGrown (c .add-row2 .result) (c .add-row2 .last .0)
     ≡ rowsWith (viewConstraint (a .c)) (getD (disjunctsIn (a .held .now)) (p .i) [] ∷ []) (listed (p .k) (p .out))
 next-put c =
-    let p = c .before .before .before .before .before .before .before .loop in
-    let a = c .before .before .before .before .before .before .before .before .before .args in
+    let p = head (tested c) .loop in
+    let a = start (tested c) .args in
     c .add-row2 .ensures ∙ ap (λ D. rowsWith (viewConstraint (a .c)) (D ∷ []) (listed (p .k) (p .out))) (c .before .before .get .ensures)
 
 returns-2 : tie.Need-returns-2 Inv-loop μ-loop
 returns-2 c =
-    let t = c .before .before .before .before .before in
-    let p = t .before .before .before .loop in
-    let s = t .before .before .before .before .before in
+    let t = tested (c .before) in
+    let p = head t .loop in
+    let s = start t in
     let C = viewConstraint (s .args .c) in
     over C _ (p .inv .1) _ _ (next-put (c .before)) (c .if4 .taken) _
     ∙ ap (λ r. rowsWith C r (listed (p .k) (p .out))) (sym (next t (c .before .before .before .before .if3 .taken)))
-    ∙ p .inv .2 ∙ begun (t .before .before .before .before) .1
+    ∙ p .inv .2 ∙ begun (head t .before) .1
 
 add-i : tie.Need-add-i Inv-loop μ-loop
 add-i c = search needs
@@ -155,8 +167,8 @@ loop-less c = search needs
 loop-again : tie.Need-loop-again Inv-loop μ-loop
 loop-again c =
     let t = c .before in
-    let p = t .before .before .before .loop in
-    let s = t .before .before .before .before .before in
+    let p = head t .loop in
+    let s = start t in
     let C = viewConstraint (s .args .c) in
     ⊎-elim
     (λ w.
