@@ -29,27 +29,33 @@ mul-if3 c = search needs
 array-read-if3 : tie.Need-array-read-if3
 array-read-if3 c = search needs
 
+-- the beginning, before the place of x is found
+abbrev begun : tie.After-insertion-point → tie.Start
+begun c = c .before .before .before
+
 returns-2 : tie.Need-returns-2
 returns-2 c =
-    let a = c .before .before .before .before .before .before .args in
-    let z = c .before .before .before .before .size in
-    let k = c .before .before .before .insertion-point in
-    let f = c .before .before .before .before .before .if1 .left in
+    let found = c .before .before .before in
+    let a = begun found .args in
+    let z = found .before .size in
+    let k = found .insertion-point in
+    let f = found .before .before .if1 .left in
     let e = found-slot (a .self) (a .x) (z .result) (k .result) f (z .ensures .0) (k .ensures .0) (c .before .if2 .taken) (c .if3 .taken) in
     let h = kept-slot (a .self) (a .x) (search needs) e in
     (h .0, h .1, λ _. refl)
 
 -- x is not among the exclusions
-absent : (c : tie.Joined2) → let a = c .before .before .before .before .before .args in let k = c .before .before .insertion-point .result in
+absent : (c : tie.Joined2) → let a = begun (c .before .before) .args in let k = c .before .before .insertion-point .result in
     k < c .before .before .before .size .result → getD (a .self .excluded) k 0 ≡ a .x → ⊥
 absent c l = ⊎-elim (λ w. w .1 .left) (λ w. absurd (omega arith)) (c .if2 .came)
 
 returns-3 : tie.Need-returns-3
 returns-3 c =
-    let a = c .before .before .before .before .before .before .args in
-    let z = c .before .before .before .before .size in
-    let k = c .before .before .before .insertion-point in
-    let f = c .before .before .before .before .before .if1 .left in
+    let found = c .before .before .before in
+    let a = begun found .args in
+    let z = found .before .size in
+    let k = found .insertion-point in
+    let f = found .before .before .if1 .left in
     let n = absent (c .before) in
     let l : length (a .self .excluded) ≡ 6 = search needs in
     let e = gap-room (a .self) (a .x) (z .result) (k .result) f (z .ensures .0) (k .ensures .0) n (omega arith) in
@@ -57,10 +63,11 @@ returns-3 c =
 
 opened-requires : tie.Need-opened-requires
 opened-requires c κs =
-    let a = c .before .before .before .before .before .before .args in
-    let z = c .before .before .before .before .size in
-    let k = c .before .before .before .insertion-point in
-    let f = c .before .before .before .before .before .if1 .left in
+    let found = c .before .before .before in
+    let a = begun found .args in
+    let z = found .before .size in
+    let k = found .insertion-point in
+    let f = found .before .before .if1 .left in
     let e = insertion-few (a .self) (a .x) (z .result) (k .result) f (z .ensures .0) (k .ensures .0) in
     omega arith
 
@@ -69,10 +76,11 @@ add-t14 c = search needs
 
 returns-4 : tie.Need-returns-4
 returns-4 c =
-    let a = c .before .before .before .before .before .before .before .args in
-    let z = c .before .before .before .before .before .size in
-    let k = c .before .before .before .before .insertion-point in
-    let f = c .before .before .before .before .before .before .if1 .left in
+    let found = c .before .before .before .before in
+    let a = begun found .args in
+    let z = found .before .size in
+    let k = found .insertion-point in
+    let f = found .before .before .if1 .left in
     let n = absent (c .before .before) in
     let l : length (a .self .excluded) ≡ 6 = search needs in
     let e = gap-room (a .self) (a .x) (z .result) (k .result) f (z .ensures .0) (k .ensures .0) n (omega arith) in (
