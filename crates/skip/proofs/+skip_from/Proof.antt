@@ -99,19 +99,27 @@ module _ (n : ℕ) where
   is-free-requires : lts.Need-is-free-requires (calls n) (at n) skip-from.Post
   is-free-requires c κs = variable (c .before .before .before) (c .before .before .if1 .left)
 
+  -- there is a demand before its variable is tested
+  abbrev demanded : lts.After-is-free (calls n) (at n) skip-from.Post → lts.Else1 (calls n) (at n) skip-from.Post
+  demanded c = c .before .before .before
+
   exclude-requires : lts.Need-exclude-requires (calls n) (at n) skip-from.Post
-  exclude-requires c κs = let x = c .before .before .before .before in variable (x .before) (x .if1 .left)
+  exclude-requires c κs = let x = demanded (c .before) in variable (x .before) (x .if1 .left)
 
   insert-requires : lts.Need-insert-requires (calls n) (at n) skip-from.Post
-  insert-requires c κs = let s = c .before .before .before .before .before .before .before .before .before in (s .pre .1 .0, s .pre .1 .3)
+  insert-requires c κs = let s = demanded (c .before .before .before .before .before) .before in (s .pre .1 .0, s .pre .1 .3)
+
+  -- the value is excluded before the insertion
+  abbrev excluded : lts.After-insert (calls n) (at n) skip-from.Post → lts.After-exclude (calls n) (at n) skip-from.Post
+  excluded c = c .before .before .before .before
 
   -- the set after the insertion is what this demand makes of it
   inserted : (c : lts.After-insert (calls n) (at n) skip-from.Post)
-      → let s = c .before .before .before .before .before .before .before .before .before .before in
+      → let s = demanded (excluded c .before .before) .before in
       grownIn (c .insert .result) (c .insert .last .0) ≡ growFew (this s) (grown (held s))
   inserted c =
-      let x = c .before .before .before .before in
-      let s = x .before .before .before .before .before .before in
+      let x = excluded c in
+      let s = demanded (x .before .before) .before in
       let ok = c .before .before .before .if3 .taken in
       c .insert .ensures ∙ ap (λ E. within heldLimit (insert compareDisjuncts E (held s))) (x .exclude .ensures .1 ok)
       ∙ sym (given-one (D s) (demand s) (held s) (sym (x .before .before .is-free .ensures) ∙ x .before .if2 .taken) (s .pre .1 .2) true
@@ -120,7 +128,7 @@ module _ (n : ℕ) where
   returns-2 : lts.Need-returns-2 (calls n) (at n) skip-from.Post
   returns-2 c =
       let t = c .before in
-      let x = t .before .before .before .before .before .before .before .before .before in
+      let x = demanded (excluded t .before .before) in
       let s = x .before in
       in-full 129 (t .insert .last .0) (omega arith)
       ∙ sym (step-full (t .insert .last .0) (t .insert .result) (this s) (held s) (inserted t) (later s) (c .if4 .taken)) ∙ ahead s (x .if1 .left)
@@ -131,7 +139,7 @@ module _ (n : ℕ) where
   skip-from-requires : lts.Need-skip-from-requires (calls n) (at n) skip-from.Post
   skip-from-requires c κs =
       let t = c .before .before in
-      let x = t .before .before .before .before .before .before .before .before .before in
+      let x = demanded (excluded t .before .before) in
       let s = x .before in
       let k = c .before .if4 .left in (
         omega (arith, s .pre .0, x .if1 .left),
@@ -146,7 +154,7 @@ module _ (n : ℕ) where
   returns-3 : lts.Need-returns-3 (calls n) (at n) skip-from.Post
   returns-3 c =
       let t = c .before .before .before in
-      let x = t .before .before .before .before .before .before .before .before .before in
+      let x = demanded (excluded t .before .before) in
       let s = x .before in
       let w = t .insert .last .0 in
       let r = t .insert .result in
@@ -154,7 +162,7 @@ module _ (n : ℕ) where
 
   returns-4 : lts.Need-returns-4 (calls n) (at n) skip-from.Post
   returns-4 c =
-      let x = c .before .before .before .before .before .before in
+      let x = demanded (c .before .before .before) in
       let s = x .before in
       let free = sym (c .before .before .before .is-free .ensures) ∙ c .before .before .if2 .taken in
       let none = given-one (D s) (demand s) (held s) free (s .pre .1 .2) false (sym (c .before .exclude .ensures .0) ∙ c .if3 .left) in
@@ -165,13 +173,13 @@ module _ (n : ℕ) where
 
   skip-from-requires-2 : lts.Need-skip-from-requires-2 (calls n) (at n) skip-from.Post
   skip-from-requires-2 c κs =
-      let x = c .before .before .before .before .before in
+      let x = demanded (c .before .before) in
       let s = x .before in
       (omega (arith, s .pre .0, x .if1 .left), s .pre .1)
 
   returns-5 : lts.Need-returns-5 (calls n) (at n) skip-from.Post
   returns-5 c =
-      let x = c .before .before .before .before .before .before in
+      let x = demanded (c .before .before .before) in
       let s = x .before in
       let none = given-none (D s) (demand s) (held s) (sym (c .before .before .before .is-free .ensures) ∙ c .before .before .if2 .left) in
       by-later s (held s) (x .if1 .left) none (c .skip-from2 .ensures)

@@ -72,8 +72,9 @@ module _ (t : tie.In-loop Inv-loop μ-loop) where
 
 returns : tie.Need-returns Inv-loop μ-loop
 returns c =
-    let t = c .before .before .before .before .before .before in
-    let s = c .before .skip-by in
+    let by = c .before in
+    let t = by .before .before .before .before .before in
+    let s = by .skip-by in
     let none = sym (s .ensures) ∙ in-full (s .result) (s .last .1 .1 .1 .0) (c .if2 .taken) in
     in-full 129 (t .before .loop .words) (omega arith) ∙ sym (through-full (this t) (held t) (later t) none) ∙ ahead t
 
