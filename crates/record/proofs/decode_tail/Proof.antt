@@ -48,9 +48,16 @@ shared-slice-read-if4 c = search needs
 no-event-requires : tie.Need-no-event-requires
 no-event-requires c κs = search needs
 
+-- the stops before the words are read: the kind, and the beginning
+abbrev widened : tie.After-word4 → tie.After-wide
+widened c = c .before .before .before .before .before
+
+abbrev begun : tie.After-word4 → tie.Start
+begun c = widened c .before .before .before
+
 -- the record
 abbrev bytes : tie.After-word4 → List ℕ
-bytes c = c .before .before .before .before .before .before .before .before .args .s .now
+bytes c = begun c .args .s .now
 
 -- the words that were read are the arguments
 read : (c : tie.After-word4)
@@ -61,8 +68,8 @@ read c =
     (c .word4 .ensures)
 
 -- byte 0 is the kind
-kind : (c : tie.After-word4) → c .before .before .before .before .before .wide .result ≡ getD (bytes c) 0 0
-kind c = c .before .before .before .before .before .wide .ensures
+kind : (c : tie.After-word4) → widened c .wide .result ≡ getD (bytes c) 0 0
+kind c = widened c .wide .ensures
 
 returns : tie.Need-returns
 returns c =
@@ -77,22 +84,30 @@ returns c =
 zero-from-requires : tie.Need-zero-from-requires
 zero-from-requires c κs = search needs
 
+-- the stops before the last arguments are tested: their number is fine, and the words are read
+abbrev counted : tie.After-zero-from → tie.Else2
+counted c = c .before .before .before .before .before
+
+abbrev worded : tie.After-zero-from → tie.After-word4
+worded c = counted c .before .before
+
 -- the test of the last arguments
-rest : (c : tie.After-zero-from) → let s = bytes (c .before .before .before .before .before .before .before) in
+rest : (c : tie.After-zero-from) → let s = bytes (worded c) in
     c .zero-from .result ≡ all (eqb 0) (drop (getD s 1 0) (argumentsIn s))
 rest c =
-    let b = c .before .before .before .before .before .before .before in
+    let b = worded c in
     c .zero-from .ensures ∙ ap (λ l. all (eqb 0) (drop (getD (bytes b) 1 0) l)) (sym (read b))
 
 returns-2 : tie.Need-returns-2
 returns-2 c =
-    let b = c .before .before .before .before .before .before .before .before in
+    let n = counted (c .before) in
+    let b = worded (c .before) in
     let s = bytes b in
     let k = kind b in
     let f : Form s = record {
-      size = b .before .before .before .before .before .before .before .before .pre;
-      kind = omega (arith, c .before .before .before .before .before .before .before .if1 .left);
-      few = omega (arith, ltb-false, c .before .before .before .before .before .before .if2 .left);
+      size = begun b .pre;
+      kind = omega (arith, n .before .if1 .left);
+      few = omega (arith, ltb-false, n .if2 .left);
       third = eqb-true _ 0 (not-false _ (c .before .before .before .before .if3 .left));
       fourth = eqb-true _ 0 (not-false _ (c .before .before .if4 .left));
       rest = sym (rest (c .before)) ∙ c .if5 .taken;

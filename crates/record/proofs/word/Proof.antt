@@ -39,14 +39,18 @@ shared-slice-read-wide-4 c = search needs
 wide-requires-4 : tie.Need-wide-requires-4
 wide-requires-4 c κs = search needs
 
+-- the first byte, three before the last
+abbrev first : tie.After-wide4 → tie.After-wide
+first c = c .before .before .before .before .before .before
+
 -- the four bytes
 small : (c : tie.After-wide4)
-    → (c .before .before .before .before .before .before .wide .result < 256)
+    → (first c .wide .result < 256)
     × (c .before .before .before .before .wide2 .result < 256)
     × (c .before .before .wide3 .result < 256)
     × (c .wide4 .result < 256)
 small c =
-    let at = c .before .before .before .before .before .before .before .before .before .args .at in
+    let at = first c .before .before .before .args .at in
     let byte = c .before .shared-slice-known5 .given in
     (omega (arith, byte at), omega (arith, byte (at + 1)), omega (arith, byte (at + 2)), omega (arith, byte (at + 3)))
 
