@@ -19,20 +19,31 @@ load-requires c κs =
     let p = c .before .before .before .before .before .pre in
     (state-facts _ _ (p .1) .count, book-facts _ (p .0) .variables)
 
+-- the stops before the words are loaded: the constraints, and the beginning
+abbrev constrained : tie.After-load → tie.After-constraints
+constrained c = c .before .before .before
+
+abbrev begun : tie.After-load → tie.Start
+begun c = constrained c .before .before .before
+
 follow-masks-requires : tie.Need-follow-masks-requires
 follow-masks-requires c κs =
     let load = c .before .before in
-    let p = load .before .before .before .before .before .before .pre in
+    let p = begun load .pre in
     let b = book-facts _ (p .0) in
     let s = state-facts _ _ (p .1) in
     (s .count, parameters-sound _ _ b s _ _ (load .load .ensures))
 
+-- the words are loaded before their masks are made
+abbrev loaded : tie.After-follow-masks → tie.After-load
+loaded c = c .before .before .before
+
 leaves-free-requires : tie.Need-leaves-free-requires
 leaves-free-requires c κs =
     let masks = c .before .before .before in
-    let load = masks .before .before .before in
-    let cs = load .before .before .before in
-    let p = cs .before .before .before .pre in
+    let load = loaded masks in
+    let cs = constrained load in
+    let p = begun load .pre in
     let b = book-facts _ (p .0) in
     let s = state-facts _ _ (p .1) in
     let followed = masks-known _ _ b s _ _ (load .load .ensures) _ (masks .follow-masks .ensures) in
@@ -41,12 +52,16 @@ leaves-free-requires c κs =
 refusal-requires : tie.Need-refusal-requires
 refusal-requires c κs = search needs
 
+-- and the masks before the test for a variable left free
+abbrev masked : tie.After-leaves-free → tie.After-follow-masks
+masked c = c .before .before .before .before
+
 returns : tie.Need-returns
 returns c =
     let test = c .before .before in
-    let load = test .before .before .before .before .before .before .before in
-    let cs = load .before .before .before in
-    let p = cs .before .before .before .pre in
+    let load = loaded (masked test) in
+    let cs = constrained load in
+    let p = begun load .pre in
     let b = book-facts _ (p .0) in
     let s = state-facts _ _ (p .1) in
     let tested = test .leaves-free .ensures _ (constraints-known _ _ _ (cs .constraints .ensures .0)) in
@@ -59,9 +74,9 @@ returns-2 : tie.Need-returns-2
 returns-2 c =
     let left = c .before .before .before in
     let test = left .before in
-    let load = test .before .before .before .before .before .before .before in
-    let cs = load .before .before .before in
-    let p = cs .before .before .before .pre in
+    let load = loaded (masked test) in
+    let cs = constrained load in
+    let p = begun load .pre in
     let b = book-facts _ (p .0) in
     let s = state-facts _ _ (p .1) in
     let tested = test .leaves-free .ensures _ (constraints-known _ _ _ (cs .constraints .ensures .0)) in
@@ -70,24 +85,24 @@ returns-2 c =
 moved-requires : tie.Need-moved-requires
 moved-requires c κs =
     let below = c .before .before .before .before in
-    let masks = below .before .before .before .before .before .before .before in
-    let load = masks .before .before .before in
-    let cs = load .before .before .before in
-    let p = cs .before .before .before .pre in
+    let masks = masked (below .before .before .before) in
+    let load = loaded masks in
+    let cs = constrained load in
+    let p = begun load .pre in
     let b = book-facts _ (p .0) in
     let s = state-facts _ _ (p .1) in
-    let loaded = load .load .ensures in
-    let followed = masks-known _ _ b s _ _ loaded _ (masks .follow-masks .ensures) in
-    (p .0, p .1, omega (arith, s .number, below .if2 .left), loaded, followed, cs .constraints .ensures .1)
+    let holds = load .load .ensures in
+    let followed = masks-known _ _ b s _ _ holds _ (masks .follow-masks .ensures) in
+    (p .0, p .1, omega (arith, s .number, below .if2 .left), holds, followed, cs .constraints .ensures .1)
 
 returns-3 : tie.Need-returns-3
 returns-3 c =
     let below = c .before .before .before .before .before in
     let left = below .before .before in
     let test = left .before in
-    let load = test .before .before .before .before .before .before .before in
-    let cs = load .before .before .before in
-    let p = cs .before .before .before .pre in
+    let load = loaded (masked test) in
+    let cs = constrained load in
+    let p = begun load .pre in
     let b = book-facts _ (p .0) in
     let s = state-facts _ _ (p .1) in
     let known = constraints-known _ _ _ (cs .constraints .ensures .0) in
