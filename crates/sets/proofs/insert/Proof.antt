@@ -43,22 +43,30 @@ shift-requires c κs =
     let h = c .before .before .before .insertion-point .ensures .1 (c .before .before .if1 .left) in
     (h .0, omega (arith, c .before .before .before .before .before .pre .0))
 
+-- the stops before the later elements are moved up: d is not among them, and the beginning
+abbrev absent : tie.After-shift → tie.Else1
+absent c = c .before .before .before
+
+abbrev begun : tie.After-shift → tie.Start
+begun c = absent c .before .before .before
+
 put-requires : tie.Need-put-requires
 put-requires c κs =
-    let s = c .before .before .before .before .before .before .before in
-    let p = c .before .before .before .before .before .insertion-point in
-    omega (arith, p .ensures .1 (c .before .before .before .before .if1 .left) .0, s .pre .0)
+    let e = absent (c .before) in
+    omega (arith, e .before .insertion-point .ensures .1 (e .if1 .left) .0, begun (c .before) .pre .0)
 
 add-result : tie.Need-add-result
 add-result c = search needs
 
 returns-3 : tie.Need-returns-3
 returns-3 c =
-    let s = c .before .before .before .before .before .before .before .before in
+    let moved = c .before .before in
+    let e = absent moved in
+    let s = begun moved in
     let a = s .args in
-    let p = c .before .before .before .before .before .before .insertion-point in
-    let h = p .ensures .1 (c .before .before .before .before .before .if1 .left) in
-    let m = c .before .before .shift in
+    let p = e .before .insertion-point in
+    let h = p .ensures .1 (e .if1 .left) in
+    let m = moved .shift in
     in-counted (a .n + 1) (c .put .last .0)
     ∙ insert-put compareDisjuncts 128 (a .n) (disjunctsIn (a .words .now)) (viewDisjunct (a .d)) (s .pre .0) (room s)
     (p .result .at) (h .0) (h .1) (disjunctsIn (m .last .0)) (disjunctsIn (c .put .last .0))
