@@ -77,31 +77,38 @@ get-requires c κs = search needs
 free-met-requires-2 : tie.Need-free-met-requires-2 Inv-loop μ-loop
 free-met-requires-2 c κs = search needs
 
+-- the stops before a mask is tested: the head of the loop, and the beginning
+abbrev head : tie.After-has Inv-loop μ-loop → tie.At-loop Inv-loop μ-loop
+head c = c .before .before .before
+
+abbrev begun : tie.After-has Inv-loop μ-loop → tie.Start Inv-loop μ-loop
+begun c = head c .before .before
+
 -- the disjuncts ahead, by the first of them
-next : (c : tie.After-has Inv-loop μ-loop) {t : Bool} → c .has .result ≡ t → let a = c .before .before .before .before .before .args in
-    let i = c .before .before .before .loop .i in let r = ahead (a .q) (a .masks .now) (disjunctsIn (a .held .now)) (a .n) in
+next : (c : tie.After-has Inv-loop μ-loop) {t : Bool} → c .has .result ≡ t → let a = begun c .args in
+    let i = head c .loop .i in let r = ahead (a .q) (a .masks .now) (disjunctsIn (a .held .now)) (a .n) in
     r i ≡ cond t (getD (disjunctsIn (a .held .now)) i [] ∷ r (i + 1)) (r (i + 1))
 next c e =
-    let s = c .before .before .before .before .before in
+    let s = begun c in
     let a = s .args in
-    ahead-next (a .q) (a .masks .now) (disjunctsIn (a .held .now)) (a .n) (c .before .before .before .loop .i)
+    ahead-next (a .q) (a .masks .now) (disjunctsIn (a .held .now)) (a .n) (head c .loop .i)
     (omega (arith, s .pre .0, in-length (a .held .now))) (c .before .before .loop-test .taken) (sym (c .has .ensures) ∙ e)
 
 -- and the test of the first of them
 next-test : (c : tie.After-free-met2 Inv-loop μ-loop) {t : Bool} → c .free-met2 .result ≡ t → let s = c .before .before .before in
-    let a = s .before .before .before .before .before .args in let i = s .before .before .before .loop .i in
+    let a = begun s .args in let i = head s .loop .i in
     let r = ahead (a .q) (a .masks .now) (disjunctsIn (a .held .now)) (a .n) in
     freeIn (a .v) (viewConstraint (a .c)) (r i) ≡ (t || freeIn (a .v) (viewConstraint (a .c)) (r (i + 1)))
 next-test c e =
     let s = c .before .before .before in
-    let a = s .before .before .before .before .before .args in
+    let a = begun s .args in
     let C = viewConstraint (a .c) in
     let one = sym (ap (λ D. freeIn (a .v) C (D ∷ [])) (c .before .get .ensures)) ∙ sym (c .free-met2 .ensures) ∙ e in
     ap (freeIn (a .v) C) (next s (c .before .before .if3 .taken))
-    ∙ free-more (a .v) C (getD (disjunctsIn (a .held .now)) (s .before .before .before .loop .i) []) one _
+    ∙ free-more (a .v) C (getD (disjunctsIn (a .held .now)) (head s .loop .i) []) one _
 
 returns-2 : tie.Need-returns-2 Inv-loop μ-loop
-returns-2 c = sym (next-test (c .before) (c .if4 .taken)) ∙ c .before .before .before .before .before .before .before .loop .inv .1
+returns-2 c = sym (next-test (c .before) (c .if4 .taken)) ∙ head (c .before .before .before .before) .loop .inv .1
 
 add-i : tie.Need-add-i Inv-loop μ-loop
 add-i c = search needs
@@ -111,8 +118,8 @@ loop-less c = search needs
 
 loop-again : tie.Need-loop-again Inv-loop μ-loop
 loop-again c =
-    let p = c .before .before .before .before .loop in
-    let a = c .before .before .before .before .before .before .args in (
+    let p = head (c .before) .loop in
+    let a = begun (c .before) .args in (
       omega arith,
       ⊎-elim
           (λ w.
