@@ -119,11 +119,11 @@ sequence-calls t = (
 module _ (t : ℕ) where
   -- alternation, once it has read a sequence and the byte behind it: the whole by its parts, and where the second part begins
   module _ (c : alternation-lts.After-peek (alternation-calls t) (alternation-at t) alternation.Post) where
-    abbrev alternation-start : alternation-lts.Start (alternation-calls t) (alternation-at t) alternation.Post
-    alternation-start = c .before .before .before .before .before .before .before
-
     abbrev alternation-first : alternation-lts.After-sequence (alternation-calls t) (alternation-at t) alternation.Post
     alternation-first = c .before .before .before .before .before
+
+    abbrev alternation-start : alternation-lts.Start (alternation-calls t) (alternation-at t) alternation.Post
+    alternation-start = alternation-first .before .before
 
     alternation-whole : let a = alternation-start .args in let s = a .s .now in
         Parts (vars s (a .t)) (a .used) (c .before .spaces-end .result + 1) alt (eqb (c .peek .result) bar) (alternated s (a .t) (a .depth))
@@ -163,22 +163,31 @@ module _ (t : ℕ) where
   alternation-alternation-requires c κs =
       let n = alternation-behind (c .before .before) (c .before .if2 .left) in (omega arith, (n .0, alternation-start (c .before .before) .pre .1 .1))
 
+  -- the bar stands there before the second part is read
+  abbrev alternation-barred : alternation-lts.After-alternation (alternation-calls t) (alternation-at t) alternation.Post
+      → alternation-lts.Else2 (alternation-calls t) (alternation-at t) alternation.Post
+  alternation-barred c = c .before .before
+
   alternation-returns-3 : alternation-lts.Need-returns-3 (alternation-calls t) (alternation-at t) alternation.Post
   alternation-returns-3 c =
-      let b = c .before .before .before .before .before in
-      second-fault (alternation-whole b) (b .before .before .before .if1 .left) (eq-eqb _ _ (c .before .before .before .before .if2 .left))
-      (c .before .before .alternation .ensures) (c .if3 .taken)
+      let r = c .before .before in
+      let d = alternation-barred r in
+      second-fault (alternation-whole (d .before)) (d .before .before .before .before .if1 .left) (eq-eqb _ _ (d .if2 .left))
+      (r .alternation .ensures) (c .if3 .taken)
 
   alternation-either-requires : alternation-lts.Need-either-requires (alternation-calls t) (alternation-at t) alternation.Post
   alternation-either-requires c κs =
-      let n = alternation-behind (c .before .before .before .before .before .before) (c .before .before .before .before .before .if2 .left) in
-      omega (arith, alternation-held (n .0) _ (c .before .before .before .alternation .ensures) .few (c .before .if3 .left))
+      let r = c .before .before .before in
+      let d = alternation-barred r in
+      let n = alternation-behind (d .before) (d .if2 .left) in
+      omega (arith, alternation-held (n .0) _ (r .alternation .ensures) .few (c .before .if3 .left))
 
   alternation-returns-4 : alternation-lts.Need-returns-4 (alternation-calls t) (alternation-at t) alternation.Post
   alternation-returns-4 c =
-      let b = c .before .before .before .before .before .before .before in
-      both-in-order (alternation-whole b) (b .before .before .before .if1 .left) (eq-eqb _ _ (c .before .before .before .before .before .before .if2 .left))
-      (c .before .before .before .before .alternation .ensures) (c .before .before .if3 .left) (c .either .ensures)
+      let r = c .before .before .before .before in
+      let d = alternation-barred r in
+      both-in-order (alternation-whole (d .before)) (d .before .before .before .before .if1 .left) (eq-eqb _ _ (d .if2 .left))
+      (r .alternation .ensures) (c .before .before .if3 .left) (c .either .ensures)
 
   -- atom, once it has tested the byte at the beginning
   module _ (c : atom-lts.After-is-lower (atom-calls t) (atom-at t) atom.Post) where
@@ -247,11 +256,11 @@ module _ (t : ℕ) where
 
   -- sequence, once it has read an item and tested the byte behind it
   module _ (c : sequence-lts.After-begins-item (sequence-calls t) (sequence-at t) sequence.Post) where
-    abbrev sequence-start : sequence-lts.Start (sequence-calls t) (sequence-at t) sequence.Post
-    sequence-start = c .before .before .before .before .before .before .before
-
     abbrev sequence-first : sequence-lts.After-item (sequence-calls t) (sequence-at t) sequence.Post
     sequence-first = c .before .before .before .before
+
+    abbrev sequence-start : sequence-lts.Start (sequence-calls t) (sequence-at t) sequence.Post
+    sequence-start = sequence-first .before .before .before
 
     sequence-whole : let a = sequence-start .args in let s = a .s .now in let r = sequence-first .item .result in
         Parts (vars s (a .t)) (a .used) (r .place) cat (c .begins-item .result) (sequenced s (a .t) (a .depth))
@@ -289,22 +298,30 @@ module _ (t : ℕ) where
   sequence-sequence-requires c κs =
       let n = sequence-behind (c .before .before) in (omega arith, (n .0, sequence-start (c .before .before) .pre .1 .1))
 
+  -- an item begins there before the second part is read
+  abbrev sequence-more : sequence-lts.After-sequence (sequence-calls t) (sequence-at t) sequence.Post
+      → sequence-lts.Else2 (sequence-calls t) (sequence-at t) sequence.Post
+  sequence-more c = c .before .before
+
   sequence-returns-3 : sequence-lts.Need-returns-3 (sequence-calls t) (sequence-at t) sequence.Post
   sequence-returns-3 c =
-      let b = c .before .before .before .before .before in
-      second-fault (sequence-whole b) (b .before .before .if1 .left) (not-false _ (c .before .before .before .before .if2 .left))
-      (c .before .before .sequence .ensures) (c .if3 .taken)
+      let r = c .before .before in
+      let d = sequence-more r in
+      second-fault (sequence-whole (d .before)) (d .before .before .before .if1 .left) (not-false _ (d .if2 .left))
+      (r .sequence .ensures) (c .if3 .taken)
 
   sequence-sequence-requires-2 : sequence-lts.Need-sequence-requires-2 (sequence-calls t) (sequence-at t) sequence.Post
   sequence-sequence-requires-2 c κs =
-      let n = sequence-behind (c .before .before .before .before .before .before) in
-      omega (arith, sequence-held (n .0) _ (c .before .before .before .sequence .ensures) .few (c .before .if3 .left))
+      let r = c .before .before .before in
+      let n = sequence-behind (sequence-more r .before) in
+      omega (arith, sequence-held (n .0) _ (r .sequence .ensures) .few (c .before .if3 .left))
 
   sequence-returns-4 : sequence-lts.Need-returns-4 (sequence-calls t) (sequence-at t) sequence.Post
   sequence-returns-4 c =
-      let b = c .before .before .before .before .before .before .before in
-      both-in-order (sequence-whole b) (b .before .before .if1 .left) (not-false _ (c .before .before .before .before .before .before .if2 .left))
-      (c .before .before .before .before .sequence .ensures) (c .before .before .if3 .left) (c .sequence2 .ensures)
+      let r = c .before .before .before .before in
+      let d = sequence-more r in
+      both-in-order (sequence-whole (d .before)) (d .before .before .before .if1 .left) (not-false _ (d .if2 .left))
+      (r .sequence .ensures) (c .before .before .if3 .left) (c .sequence2 .ensures)
 
 pub +alternation+atom+sequence-spec : {M : Type 1} → statement M
 +alternation+atom+sequence-spec = close μ-alternation μ-atom μ-sequence (λ t. alternation-lts.spec (alternation-calls t)
