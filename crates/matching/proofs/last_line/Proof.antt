@@ -20,13 +20,17 @@ spaces-end-requires c κs = search needs
 peek-requires : tie.Need-peek-requires
 peek-requires c κs = search needs
 
+-- the beginning, before the byte behind the spaces is seen
+abbrev begun : tie.After-peek → tie.Start
+begun c = c .before .before .before .before .before
+
 unfit-requires : tie.Need-unfit-requires
 unfit-requires c κs = search needs
 
 returns-2 : tie.Need-returns-2
 unfolding lastLine
 returns-2 c vars used x e =
-    let s = c .before .before .before .before .before .before .before .args .s .now in
+    let s = begun (c .before .before) .args .s .now in
     let q = c .before .before .before .spaces-end in
     rw (
       good vars used x e (c .before .before .before .before .if1 .left),
@@ -38,7 +42,7 @@ returns-2 c vars used x e =
 
 add-if3 : tie.Need-add-if3
 add-if3 c =
-    let start = c .before .before .before .before .before .before in
+    let start = begun (c .before) in
     omega (arith, spacesEnd-le (start .args .s .now) (start .args .a .place) (start .pre))
 
 add-t9 : tie.Need-add-t9
@@ -60,7 +64,7 @@ returns-3 c vars used x e =
 
 add-failed : tie.Need-add-failed
 add-failed c =
-    let start = c .before .before .before .before .before .before .before in
+    let start = begun (c .before .before) in
     omega (arith, spacesEnd-le (start .args .s .now) (start .args .a .place) (start .pre))
 
 failed-requires : tie.Need-failed-requires

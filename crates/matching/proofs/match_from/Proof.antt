@@ -148,12 +148,16 @@ returns-3 c =
     )
     (c .failed2 .ensures ∙ failed-parsed _ 0 7 _ (omega arith))
 
+-- the pattern's line is read before it is known not to match the empty word
+abbrev lined : tie.Else3 → tie.After-last-line
+lined c = c .before .before .before .before
+
 all-bits-requires : tie.Need-all-bits-requires
-all-bits-requires c κs = c .before .before .before .before .before .before .before .before .before .before .pre .ready .fewVariables
+all-bits-requires c κs = begun (lined c) .pre .ready .fewVariables
 
 returns-4 : tie.Need-returns-4
 returns-4 c =
-    let last = c .before .before .before .before .before .before in
+    let last = lined (c .before .before) in
     let start = begun last in
     let a = start .args in
     let e = line-read last in
@@ -168,7 +172,7 @@ failed-requires-3 c κs = search needs
 
 returns-5 : tie.Need-returns-5
 returns-5 c =
-    let last = c .before .before .before .before .before .before .before in
+    let last = lined (c .before .before .before) in
     let start = begun last in
     let a = start .args in
     rw (
