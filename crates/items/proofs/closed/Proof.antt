@@ -20,9 +20,13 @@ spaces-end-requires c κs = search needs
 peek-requires : tie.Need-peek-requires
 peek-requires c κs = search needs
 
+-- the beginning, before the byte behind the spaces is seen
+abbrev begun : tie.After-peek → tie.Start
+begun c = c .before .before .before .before .before
+
 add-t8 : tie.Need-add-t8
 add-t8 c =
-    let start = c .before .before .before .before .before .before .before in
+    let start = begun (c .before .before) in
     omega (arith, spacesEnd-le (start .args .s .now) (start .args .a .place) (start .pre))
 
 returns-2 : tie.Need-returns-2
@@ -44,7 +48,7 @@ unfit-requires c κs = search needs
 returns-3 : tie.Need-returns-3
 unfolding Parse.closed
 returns-3 c vars used x e =
-    let s = c .before .before .before .before .before .before .before .args .s .now in
+    let s = begun (c .before .before) .args .s .now in
     let q = c .before .before .before .spaces-end in
     rw (
       good vars used x e (c .before .before .before .before .if1 .left),

@@ -90,10 +90,17 @@ sign c =
     (⊎-elim (λ w. rw (ne-eqb _ 32 (w .0 .left), w .1 .left, w .2 .taken)) (λ w. rw (ne-eqb _ 32 (w .0 .left), w .1 .left, w .2 .left, w .3 .taken))))
     (c .if2 .came)
 
-inside : (c : tie.Joined2 Inv-loop μ-loop) → c .before .loop .here < length (c .before .before .before .before .before .before .before .args .s .now)
+-- the stops before the loop: the atom has no fault, and the beginning
+abbrev faultless : tie.At-loop Inv-loop μ-loop → tie.Else1 Inv-loop μ-loop
+faultless c = c .before .before .before
+
+abbrev begun : tie.At-loop Inv-loop μ-loop → tie.Start Inv-loop μ-loop
+begun c = faultless c .before .before .before
+
+inside : (c : tie.Joined2 Inv-loop μ-loop) → c .before .loop .here < length (begun (c .before) .args .s .now)
 inside c =
     let o = c .before .loop in
-    within (c .before .before .before .before .before .before .before .args .s .now) (o .here) (o .b) (o .inv .0) (sign c)
+    within (begun (c .before) .args .s .now) (o .here) (o .b) (o .inv .0) (sign c)
 
 add-here : tie.Need-add-here Inv-loop μ-loop
 add-here c = omega (arith, inside c)
@@ -111,8 +118,9 @@ loop-again : tie.Need-loop-again Inv-loop μ-loop
 loop-again c = (
   c .peek2 .ensures,
   λ vars k r₀ e.
-      let s = c .before .before .before .before .before .before .before .before .before .args .s .now in
-      let o = c .before .before .before .loop in
+      let head = c .before .before .before in
+      let s = begun head .args .s .now in
+      let o = head .loop in
       let n = o .inv .1 vars k r₀ e in
       ⊎-elim
       (λ w. (
@@ -127,9 +135,10 @@ loop-again c = (
 returns-2 : tie.Need-returns-2 Inv-loop μ-loop
 unfolding Parse.itemOf parsedOf
 returns-2 c vars used x e =
-    let s = c .before .before .before .before .before .before .before .before .before .before .args .s .now in
-    let o = c .before .before .before .before .loop in
-    let h = c .before .before .before .before .before .before .before .if1 .left in
+    let head = c .before .before .before .before in
+    let s = begun head .args .s .now in
+    let o = head .loop in
+    let h = faultless head .if1 .left in
     let n = o .inv .1 vars (suc used) (x .tree) (piece-same vars used x e h) in
     let z = ended s (o .here) (o .b) (o .inv .0) (o .done) (n .0) (ne-eqb _ 32 (c .before .before .before .if2 .left))
     (c .before .before .if3 .left) (c .before .if4 .left) (c .if5 .left) in
