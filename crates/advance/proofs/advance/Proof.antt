@@ -66,9 +66,16 @@ add-has c = search needs
 has-requires : tie.Need-has-requires Inv-loop μ-loop
 has-requires c κs = search needs
 
+-- the stops before a label is added: it is known whether its position begins, in a turn of the loop
+abbrev tested : tie.After-add-label Inv-loop μ-loop → tie.After-has Inv-loop μ-loop
+tested c = c .before .before .before .before .before .before
+
+abbrev turning : tie.After-has Inv-loop μ-loop → tie.In-loop Inv-loop μ-loop
+turning c = c .before .before .before .before
+
 add-label-requires : tie.Need-add-label-requires Inv-loop μ-loop
 add-label-requires c κs =
-    let t = c .before .before .before .before .before .before .before .before .before in
+    let t = turning (c .before .before .before .before .before) in
     let l = t .before .loop in
     let s = t .before .before in
     let a = s .args in
@@ -85,17 +92,17 @@ add-label-requires c κs =
 
 -- one turn, whether there is room for the label or not
 turn : (c : tie.After-add-label Inv-loop μ-loop) →
-    let t = c .before .before .before .before .before .before .before .before .before .before in
+    let t = turning (tested c) in
     let a = t .before .before .args in
     Turned (a .t1) (a .t2) (a .held .now) (a .at .now) (a .n) (t .before .loop .i) (c .add-label .result)
     (c .add-label .last .1 .1 .1 .1 .1 .1 .1 .1 .1 .1 .1 .0) (c .add-label .last .1 .1 .1 .1 .1 .1 .1 .1 .1 .1 .0)
 turn c =
-    let t = c .before .before .before .before .before .before .before .before .before .before in
+    let t = turning (tested c) in
     let l = t .before .loop in
     let s = t .before .before in
     let a = s .args in
     let p = c .add-label in
-    let begins = c .before .before .before .before .before .before .has in
+    let begins = tested c .has in
     one-turn (a .t1) (a .t2) (a .held .now) (a .at .now) (a .n) (l .i) (l .total) (p .result) (l .next-at) (l .next)
     (p .last .1 .1 .1 .1 .1 .1 .1 .1 .1 .1 .1 .0) (p .last .1 .1 .1 .1 .1 .1 .1 .1 .1 .1 .0) (a .masks .now) (begins .result)
     (t .loop-test .taken) (long s) (s .pre .1 .positions) (s .pre .2) (s .pre .4) (begins .ensures) (l .inv .1) (p .ensures)
