@@ -39,13 +39,21 @@ get-requires c κs = search needs
 add-met-requires : tie.Need-add-met-requires Inv-loop μ-loop
 add-met-requires c κs = search needs
 
+-- the stops before a mask is tested: the head of the loop, and the beginning
+abbrev head : tie.After-has Inv-loop μ-loop → tie.At-loop Inv-loop μ-loop
+head c = c .before .before .before
+
+abbrev begun : tie.After-has Inv-loop μ-loop → tie.Start Inv-loop μ-loop
+begun c = head c .before
+
 returns : tie.Need-returns Inv-loop μ-loop
 returns c =
-    let a = c .before .before .before .before .before .before .before .before .before .args in
-    let l = c .before .before .before .before .before .before .before .before .loop in
+    let tested = c .before .before .before .before .before in
+    let a = begun tested .args in
+    let l = head tested .loop in
     growing-full (viewConstraint (a .c)) (a .q) (a .masks .now) (a .held .now) (a .n) (take (a .count) (disjunctsIn (a .out .now))) (l .out) (l .m) (l .i)
     (l .inv) (omega arith) (omega arith) (c .before .add-met .last .0) (c .before .add-met .result) (viewDisjunct (c .before .before .before .get .result))
-    (sym (c .before .before .before .before .before .has .ensures) ∙ c .before .before .before .before .if1 .taken)
+    (sym (tested .has .ensures) ∙ c .before .before .before .before .if1 .taken)
     (c .before .before .before .get .ensures) (c .before .add-met .ensures) (c .before .add-met .last .0) (omega arith)
 
 add-i : tie.Need-add-i Inv-loop μ-loop
@@ -56,8 +64,8 @@ loop-less c = search needs
 
 loop-again : tie.Need-loop-again Inv-loop μ-loop
 loop-again c =
-    let a = c .before .before .before .before .before .args in
-    let l = c .before .before .before .before .loop in
+    let a = begun (c .before) .args in
+    let l = head (c .before) .loop in
     let k = viewConstraint (a .c) in
     let base = take (a .count) (disjunctsIn (a .out .now)) in
     let met = c .before .has .ensures in
