@@ -31,11 +31,18 @@ add-read-slot-3 c = search needs
 read-slot-requires-4 : tie.Need-read-slot-requires-4
 read-slot-requires-4 c κs = search needs
 
+-- the stops before the fourth entry is read: the first one, and the beginning
+abbrev first : tie.After-read-slot4 → tie.After-read-slot
+first c = c .before .before .before .before .before .before
+
+abbrev begun : tie.After-read-slot4 → tie.Start
+begun c = first c .before .before
+
 returns : tie.Need-returns
 returns c =
-    let s = c .before .before .before .before .before .before .before .before in
+    let s = begun c in
     view-four _ _ _ _
-    ∙ ap₂ (λ a r. a ∷ r) (c .before .before .before .before .before .before .read-slot .ensures)
+    ∙ ap₂ (λ a r. a ∷ r) (first c .read-slot .ensures)
     (ap₂ (λ a r. a ∷ r) (c .before .before .before .before .read-slot2 .ensures)
     (ap₂ (λ a r. a ∷ r) (c .before .before .read-slot3 .ensures) (ap (λ a. a ∷ []) (c .read-slot4 .ensures))))
     ∙ sym (disjuncts-at (s .args .words .now) (s .args .i) (s .pre))

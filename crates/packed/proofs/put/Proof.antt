@@ -46,9 +46,16 @@ add-put-slot-3 c = search needs
 put-slot-requires-4 : tie.Need-put-slot-requires-4
 put-slot-requires-4 c κs = search needs
 
+-- the stops before the fourth entry is written: the first one, and the beginning
+abbrev first : tie.After-put-slot4 → tie.After-put-slot
+first c = c .before .before .before .before .before .before
+
+abbrev begun : tie.After-put-slot4 → tie.Start
+begun c = first c .before .before .before .before .before .before
+
 returns : tie.Need-returns
 returns c =
-    let s = c .before .before .before .before .before .before .before .before .before .before .before .before in
+    let s = begun c in
     let a = s .args in
     let j = a .i * 4 in
     let l : length (a .t3 .vars) ≡ 4 = search (needs, map-length) in
@@ -56,7 +63,7 @@ returns c =
     (c .put-slot4 .ensures
     ∙ ap (λ r. set r (j + 3) (viewSlot (getD (a .t3 .vars) 3 noSlot))) (c .before .before .put-slot3 .ensures
     ∙ ap (λ r. set r (j + 2) (viewSlot (getD (a .t3 .vars) 2 noSlot))) (c .before .before .before .before .put-slot2 .ensures
-    ∙ ap (λ r. set r (j + 1) (viewSlot (getD (a .t3 .vars) 1 noSlot))) (c .before .before .before .before .before .before .put-slot .ensures))))
+    ∙ ap (λ r. set r (j + 1) (viewSlot (getD (a .t3 .vars) 1 noSlot))) (first c .put-slot .ensures))))
 
 pub put-spec : {M : Type 1} → statement M
 put-spec =

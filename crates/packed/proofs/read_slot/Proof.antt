@@ -78,8 +78,9 @@ shared-slice-read-t28 c = search needs
 
 returns-2 : tie.Need-returns-2
 returns-2 c =
-    let s = c .before .before .before .before .before .before .before .before .before in
-    read-free (s .args .words .now) (s .args .at) (s .pre) (c .before .before .before .before .before .if1 .left)
+    let free = c .before .before .before .before .before in
+    let s = free .before .before .before .before in
+    read-free (s .args .words .now) (s .args .at) (s .pre) (free .if1 .left)
 
 pub read-slot-spec : {M : Type 1} → statement M
 read-slot-spec =
