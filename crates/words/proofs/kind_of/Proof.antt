@@ -42,12 +42,14 @@ returns-3 c =
 
 digits-value-requires : tie.Need-digits-value-requires
 digits-value-requires c κs =
-    let d = c .before .before .before .all-digits in
-    let h = c .before .before .before .before .before .before .pre in
+    let tested = c .before .before .before in
+    let d = tested .all-digits in
+    let h = tested .before .before .before .pre in
     (h .0, h .1, omega arith, sym (d .ensures) ∙ not-false (d .result) (c .before .before .if2 .left))
 
 -- what is left to say of a number
-number : (c : tie.Else3) → let a = c .before .before .before .before .before .before .args in
+number : (c : tie.Else3) → let tested = c .before .before .before in
+    let a = tested .before .before .before .args in
     let n = value 0 (part (a .s .now) (a .p) (a .e)) in kindOf (a .s .now) (a .p) (a .e) ≡ cond (leb n 255) n 0
 unfolding kindOf
 number c =
