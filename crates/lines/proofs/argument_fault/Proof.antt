@@ -27,20 +27,22 @@ returns-2 c =
 
 find-requires : tie.Need-find-requires
 find-requires c κs =
-    let h = c .before .before .before .before .before .before .pre in
+    let named = c .before .before in
+    let h = named .before .before .before .before .pre in
     (omega arith, omega (arith, h .0 .fewVariables), h .1, h .2, variables-inside (h .0))
 
 -- the fault of a name, by what `find` gives
 known : (c : tie.After-find) →
-    let b = c .before .before .before .before .before .before .before in
+    let named = c .before .before .before in
+    let b = named .before .before .before .before in
     argumentFault (b .args .s .now) (viewTable (b .args .t) .variables) (b .args .p) (b .args .e) ≡ cond (ltb (c .find .result) (b .args .t .variables)) 0 5
 known c =
-    let b = c .before .before .before .before .before .before .before in
-    let r = b .pre .0 in
+    let named = c .before .before .before in
+    let r = named .before .before .before .before .pre .0 in
     rw (
-      ← c .before .before .before .before .before .is-ignored .ensures,
-      c .before .before .before .before .if1 .left,
-      ← c .before .before .before .name-fault .ensures,
+      ← named .before .before .is-ignored .ensures,
+      named .before .if1 .left,
+      ← named .name-fault .ensures,
       eq-eqb _ 0 (c .before .before .if2 .left),
       ← variable-found r _ _ (c .find .ensures),
       ← variables-length r,

@@ -35,10 +35,17 @@ returns c =
 word-end-requires : tie.Need-word-end-requires
 word-end-requires c κs = search needs
 
+-- the stops before the end of the word is found: the word, and the beginning
+abbrev wanted : tie.After-word-end → tie.After-want-word
+wanted c = c .before .before .before
+
+abbrev begun : tie.After-word-end → tie.Start
+begun c = wanted c .before .before
+
 kind-of-requires : tie.Need-kind-of-requires
 kind-of-requires c κs =
-    let k = c .before .before .before in
-    let b = k .before .before in
+    let k = wanted c in
+    let b = begun c in
     let s = b .args .s .now in
     let q = k .want-word .result .place in
     let i : q ≤ length s = omega (arith, want-inside s (b .args .p) (b .pre .1), ap (λ x. x .place) (step k)) in
@@ -51,8 +58,8 @@ returns-2 : tie.Need-returns-2
 returns-2 c =
     let n = c .before .before in
     let w = n .before in
-    let k = w .before .before .before in
-    let b = k .before .before in
+    let k = wanted w in
+    let b = begun w in
     let placed : c .no-symbol-read2 .result ≡ symbolRead (noSymbolRead (fail 2 (k .want-word .result .place))) = c .no-symbol-read2 .ensures in
     placed ∙ ap symbolRead
     (sym (kind-wrong _ _ (spanOf (b .args .name)) _ (step k) (w .before .if1 .left) (w .word-end .ensures) (n .kind-of .ensures) (c .before .if2 .taken)))
@@ -63,15 +70,15 @@ no-symbol-requires c κs = search needs
 cast-y : tie.Need-cast-y
 cast-y c =
     let n = c .before .before in
-    let k = n .before .before .before .before in
-    omega (arith, n .kind-of .ensures, kind-le (k .before .before .args .s .now) (k .want-word .result .place) (n .before .word-end .result))
+    let w = n .before in
+    omega (arith, n .kind-of .ensures, kind-le (begun w .args .s .now) (wanted w .want-word .result .place) (w .word-end .result))
 
 arguments-from-requires : tie.Need-arguments-from-requires
 arguments-from-requires c κs =
     let n = c .before .before in
     let w = n .before in
     let h = c .no-symbol .ensures in
-    let b = w .before .before .before .before .before in
+    let b = begun w in
     (b .pre .0, bare-kept h (n .kind-of .result), omega (arith, bare-count h 0), kind-of-requires w κs .1)
 
 no-symbol-read-requires-3 : tie.Need-no-symbol-read-requires-3
@@ -80,7 +87,7 @@ no-symbol-read-requires-3 c κs = search needs
 -- the arguments behind the kind
 behind : (c : tie.After-arguments-from) →
     let n = c .before .before .before in
-    let b = n .before .before .before .before .before .before in
+    let b = begun (n .before) in
     c .arguments-from .result
     ≡ argumentsRead (n .kind-of .result) (argumentsFrom (b .args .s .now) (viewTable (b .args .t) .variables) 4 [] (n .before .word-end .result))
 behind c = bare-reads (c .before .no-symbol .ensures) (c .before .before .before .kind-of .result) _ _ _ (c .arguments-from .ensures)
@@ -90,8 +97,8 @@ returns-3 c =
     let a = c .before .before .before in
     let n = a .before .before .before in
     let w = n .before in
-    let k = w .before .before .before in
-    let b = k .before .before in
+    let k = wanted w in
+    let b = begun w in
     c .no-symbol-read3 .ensures ∙ ap symbolRead
     (sym (kind-stopped _ _ (spanOf (b .args .name)) _ (step k) (w .before .if1 .left) (w .word-end .ensures) (n .kind-of .ensures)
     (a .before .before .if2 .left) (behind a) (c .before .if3 .taken)))
@@ -101,8 +108,8 @@ returns-4 c =
     let a = c .before .before .before in
     let n = a .before .before .before in
     let w = n .before in
-    let k = w .before .before .before in
-    let b = k .before .before in
+    let k = wanted w in
+    let b = begun w in
     kind-whole _ _ (spanOf (b .args .name)) _ (step k) (w .before .if1 .left) (w .word-end .ensures) (n .kind-of .ensures)
     (a .before .before .if2 .left) (behind a) (c .before .if3 .left)
 

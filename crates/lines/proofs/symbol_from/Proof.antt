@@ -35,30 +35,35 @@ word-end-requires c κs = search needs
 add-to : tie.Need-add-to
 add-to c = search needs
 
+-- the stops before the end of the name is found: the word, and the beginning
+abbrev wanted : tie.After-word-end → tie.After-want-word
+wanted c = c .before .before .before
+
+abbrev begun : tie.After-word-end → tie.Start
+begun c = wanted c .before .before
+
 -- the name is inside the text
 word : (c : tie.After-word-end)
-    → let n = c .before .before .before in
-    let e = c .word-end .result in
-    (n .want-word .result .place ≤ e) × (e ≤ length (n .before .before .args .s .now))
+    → let e = c .word-end .result in (wanted c .want-word .result .place ≤ e) × (e ≤ length (begun c .args .s .now))
 word c =
-    let n = c .before .before .before in
-    let x = n .before .before in
+    let n = wanted c in
+    let x = begun c in
     word-within _ _ _ (c .word-end .ensures)
     (omega (arith, ap (λ y. y .place) (step n), want-inside (x .args .s .now) (x .args .p) (x .pre .1)))
 
 declare-fault-requires : tie.Need-declare-fault-requires
 declare-fault-requires c κs =
-    let x = c .before .before .before .before .before .before in
+    let x = begun (c .before) in
     (x .pre .0, omega arith, word (c .before) .0, word (c .before) .1)
 
 -- its fault, beside all names
 told : (c : tie.After-declare-fault)
     → let w = c .before .before in
-    let n = w .before .before .before in
-    let a = n .before .before .args in
+    let n = wanted w in
+    let a = begun w .args in
     let names = viewTable (a .t) .variables ++ viewTable (a .t) .symbols in
     c .declare-fault .result ≡ declareFault (a .s .now) names (n .want-word .result .place) (w .word-end .result)
-told c = rw (← names-all (c .before .before .before .before .before .before .before .args .t)) (c .declare-fault .ensures)
+told c = rw (← names-all (begun (c .before .before) .args .t)) (c .declare-fault .ensures)
 
 no-symbol-read-requires-2 : tie.Need-no-symbol-read-requires-2
 no-symbol-read-requires-2 c κs = search needs
@@ -67,7 +72,7 @@ returns-2 : tie.Need-returns-2
 returns-2 c =
     let d = c .before .before in
     let w = d .before .before in
-    let n = w .before .before .before in
+    let n = wanted w in
     c .no-symbol-read2 .ensures
     ∙ ap symbolRead (sym (symbol-wrong _ _ _ (step n) (w .before .if1 .left) (w .word-end .ensures) (told d) (c .before .if2 .taken)))
 
@@ -77,13 +82,13 @@ sub-t10 c = word (c .before .before .before) .0
 kind-from-requires : tie.Need-kind-from-requires
 kind-from-requires c κs =
     let w = c .before .before .before in
-    (w .before .before .before .before .before .pre .0, word w .1)
+    (begun w .pre .0, word w .1)
 
 returns-3 : tie.Need-returns-3
 returns-3 c =
     let d = c .before .before in
     let w = d .before .before in
-    let n = w .before .before .before in
+    let n = wanted w in
     rw (symbol-next _ _ _ (step n) (w .before .if1 .left) (w .word-end .ensures) (told d) (c .before .if2 .left)) (c .kind-from .ensures)
 
 pub symbol-from-spec : {M : Type 1} → statement M
