@@ -21,10 +21,11 @@ add-t15 c = search needs
 returns : tie.Need-returns
 unfolding eitherOf joinedOf join meet
 returns c vars a b k ex ey =
-    let s = c .before .before .before .before .before .before .before .args in
+    let j = c .before .before in
+    let s = j .before .before .before .before .before .args in
     let t : c .if1 .t17 ≡ (s .x .empty || s .y .empty) =
     ⊎-elim (λ w. rw (w .0 .taken) (w .1 ∙ w .0 .taken)) (λ w. rw (w .0 .left) (w .1)) (c .if1 .came) in
-    rw (t, c .before .before .joined .ensures, c .before .joined2 .ensures) (ap₂ eitherOf ex ey ∙ either-whole vars a b k)
+    rw (t, j .joined .ensures, c .before .joined2 .ensures) (ap₂ eitherOf ex ey ∙ either-whole vars a b k)
 
 pub either-spec : {M : Type 1} → statement M
 either-spec = tie.close (tie.spec joined-requires joined-requires-2 add-t15 returns)

@@ -31,10 +31,11 @@ returns : tie.Need-returns
 unfolding join
 returns c vars a b k ex ey =
     let d = c .before .before .before .before in
-    let s = d .before .before .before .before .before .before .args in
+    let g = d .before in
+    let s = g .before .before .before .before .before .args in
     let t : c .if1 .t27 ≡ (s .x .empty && s .y .empty) =
     ⊎-elim (λ w. rw (w .0 .taken) (w .1)) (λ w. rw (w .0 .left) (w .1 ∙ w .0 .left)) (c .if1 .came) in
-    sequence-made (s .x) (s .y) t (d .before .given .ensures) (d .given2 .ensures) (is-joined _ _ (c .before .joined2 .ensures))
+    sequence-made (s .x) (s .y) t (g .given .ensures) (d .given2 .ensures) (is-joined _ _ (c .before .joined2 .ensures))
     (is-joined _ _ (c .before .before .before .joined .ensures)) (is-linked _ _ _ (c .before .before .linked .ensures))
     ∙ ap₂ sequenceOf ex ey ∙ sequence-whole vars a b k
 
