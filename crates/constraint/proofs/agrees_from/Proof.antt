@@ -63,8 +63,9 @@ element-copy-out-x c = search needs
 
 returns : tie.Need-returns Inv-loop μ-loop
 returns c =
-    let t = c .before .before .before .before .before .before .before in
-    next t false (unequal (kept t) (met t) (c .before .before .before .if1 .taken) (c .if2 .taken))
+    let same = c .before .before .before in
+    let t = same .before .before .before .before in
+    next t false (unequal (kept t) (met t) (same .if1 .taken) (c .if2 .taken))
 
 add-j-2 : tie.Need-add-j-2 Inv-loop μ-loop
 add-j-2 c = search needs
