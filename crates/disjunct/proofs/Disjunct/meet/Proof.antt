@@ -74,8 +74,12 @@ holding-requires c κs = search needs
 mul-t21 : tie.Need-mul-t21 Inv-loop μ-loop
 mul-t21 c = search needs
 
+-- the turn, before its demand is tested
+abbrev turn : tie.After-admits Inv-loop μ-loop → tie.In-loop Inv-loop μ-loop
+turn c = c .before .before .before .before
+
 element-set-from-d : tie.Need-element-set-from-d Inv-loop μ-loop
-element-set-from-d c = within (c .before .before .before .before .before .before) .0
+element-set-from-d c = within (turn (c .before .before)) .0
 
 add-i : tie.Need-add-i Inv-loop μ-loop
 add-i c = search needs
@@ -85,7 +89,7 @@ loop-less c = search needs
 
 loop-again : tie.Need-loop-again Inv-loop μ-loop
 loop-again c =
-    let t = c .before .before .before .before .before .before in
+    let t = turn (c .before .before) in
     let l = t .before .loop in
     let y = t .before .before .before .args .t2 in
     let x = getD (y .demands) (l .i) emptyDemand in
@@ -102,7 +106,7 @@ loop-again c =
 
 returns : tie.Need-returns Inv-loop μ-loop
 returns c =
-    let t = c .before .before .before .before .before in
+    let t = turn (c .before) in
     let l = t .before .loop in
     let s = t .before .before .before in
     let y = s .args .t2 in
