@@ -16,10 +16,14 @@ use Rattle.sound.proofs.Parts.{book-variables, book-none, book-parts}
 use Rattle.sound.proofs.sound_book.Statement.{statement}
 use Rattle.sound.proofs.sound_book.Tie as tie
 
+-- the beginning, before the number of symbols is tested
+abbrev begun : tie.After-within → tie.Start
+begun c = c .before .before .before .before .before
+
 -- what `within` has found
-few : (c : tie.Then2) → let n = c .before .before .before .before .before .before .args .b .symbols in (1 ≤ n) × (n ≤ 16)
+few : (c : tie.Then2) → let n = begun (c .before) .args .b .symbols in (1 ≤ n) × (n ≤ 16)
 few c =
-    let n = c .before .before .before .before .before .before .args .b .symbols in
+    let n = begun (c .before) .args .b .symbols in
     let p = and-true-split (leb 1 n) (leb n 16) (sym (c .before .within .ensures) ∙ c .if2 .taken) in
     (leb-true 1 n (p .0), leb-true n 16 (p .1))
 
@@ -52,7 +56,7 @@ unfolding declaredSound
 returns-2 c =
     let m = c .before .before .before in
     let t = m .before .before .before in
-    let e = t .before .before .before .before .before .before in
+    let e = begun (t .before) in
     let b = e .args .b in
     let named : m .sound-names .result ≡ all namePlaced (take (b .variables + b .symbols) (b .names)) = m .sound-names .ensures in
     c .both2 .ensures
@@ -60,7 +64,7 @@ returns-2 c =
     ∙ sym (book-parts b (book-sized b (e .good .0)) (t .before .before .if1 .left) (few t .0) (few t .1))
 
 returns-3 : tie.Need-returns-3
-returns-3 c = sym (book-none (c .before .before .before .before .before .before .args .b) (sym (c .before .within .ensures) ∙ c .if2 .left))
+returns-3 c = sym (book-none (begun (c .before) .args .b) (sym (c .before .within .ensures) ∙ c .if2 .left))
 
 pub sound-book-spec : {M : Type 1} → statement M
 sound-book-spec =
