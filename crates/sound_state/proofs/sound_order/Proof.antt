@@ -62,9 +62,13 @@ add-i c = omega arith
 loop-less : tie.Need-loop-less Inv-loop μ-loop
 loop-less c = omega arith
 
+-- the turn, before its two neighbours are compared
+abbrev turn : tie.After-before2 Inv-loop μ-loop → tie.In-loop Inv-loop μ-loop
+turn c = c .before .before .before .before .before
+
 loop-again : tie.Need-loop-again Inv-loop μ-loop
 loop-again c =
-    let t = c .before .before .before .before .before .before in
+    let t = turn (c .before) in
     let l = t .before .loop in
     let a = t .before .before .args in
     let g : a .t1 .count ≤ length (a .t1 .positions) = omega arith in
@@ -77,7 +81,7 @@ loop-again c =
 
 returns : tie.Need-returns Inv-loop μ-loop
 returns c =
-    let t = c .before .before .before .before .before .before in
+    let t = turn (c .before) in
     let l = t .before .loop in
     let a = t .before .before .args in
     let g : a .t1 .count ≤ length (a .t1 .positions) = omega arith in

@@ -56,9 +56,13 @@ add-i c = search needs
 loop-less : tie.Need-loop-less Inv-loop μ-loop
 loop-less c = search needs
 
+-- the turn, before its position is tested
+abbrev turn : tie.After-within Inv-loop μ-loop → tie.In-loop Inv-loop μ-loop
+turn c = c .before .before .before
+
 loop-again : tie.Need-loop-again Inv-loop μ-loop
 loop-again c =
-    let t = c .before .before .before .before .before .before in
+    let t = turn (c .before .before .before) in
     let l = t .before .loop in
     let a = t .before .before .args in
     let s = a .t1 in
@@ -72,7 +76,7 @@ loop-again c =
 
 returns : tie.Need-returns Inv-loop μ-loop
 returns c =
-    let t = c .before .before .before .before .before .before in
+    let t = turn (c .before .before .before) in
     let l = t .before .loop in
     let a = t .before .before .args in
     let s = a .t1 in
@@ -83,7 +87,7 @@ returns c =
 
 returns-2 : tie.Need-returns-2 Inv-loop μ-loop
 returns-2 c =
-    let t = c .before .before .before .before in
+    let t = turn (c .before) in
     let l = t .before .loop in
     let a = t .before .before .args in
     let s = a .t1 in
