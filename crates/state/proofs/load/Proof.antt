@@ -46,15 +46,16 @@ loop-less c = search needs
 
 loop-again : tie.Need-loop-again Inv-loop μ-loop
 loop-again c =
-    let b = c .before .before .before .before .before .before .before in
+    let p = c .before .before .before in
+    let b = p .before .before .before .before in
     let s = b .before .before .args .t1 in
     let l = b .before .loop in
     let good = b .before .before .good .0 in
-    let p : length (s .positions) ≡ 128 = sym (length-map (s .positions) _) ∙ good .1 .1 .1 .1 .0 .1 .0 .1 in
+    let m : length (s .positions) ≡ 128 = sym (length-map (s .positions) _) ∙ good .1 .1 .1 .1 .0 .1 .0 .1 in
     let q : length (s .pool) ≡ 128 = sym (length-map (s .pool) _) ∙ good .1 .1 .1 .1 .1 .0 .1 .0 .1 in
-    loaded-more (b .before .before .args .variables) s (l .at) (l .words) (l .i) (l .inv) (c .before .before .before .put-position .last .0) (c .put .last .0)
-    (c .before .tidied .result) _ (b .loop-test .taken) (b .before .before .pre .0) (omega arith) p q
-    (c .before .before .before .put-position .ensures) (c .put .ensures) (c .before .tidied .ensures)
+    loaded-more (b .before .before .args .variables) s (l .at) (l .words) (l .i) (l .inv) (p .put-position .last .0) (c .put .last .0)
+    (c .before .tidied .result) _ (b .loop-test .taken) (b .before .before .pre .0) (omega arith) m q
+    (p .put-position .ensures) (c .put .ensures) (c .before .tidied .ensures)
 
 returns : tie.Need-returns Inv-loop μ-loop
 returns c =
