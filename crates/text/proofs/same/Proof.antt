@@ -43,11 +43,12 @@ shared-slice-read-if2-2 c = omega arith
 
 returns-2 : tie.Need-returns-2 Inv-loop μ-loop
 returns-2 c =
-    let x = c .before .before .before .before .before .before .args in
+    let head = c .before .before .before .before in
+    let start = head .before .before in
+    let x = start .args in
     sym
-    (same-at (x .a .now) (x .p) (x .e) (x .b .now) (x .q) (x .f) (c .before .before .before .before .before .before .pre)
-    (c .before .before .before .before .loop .i) (c .before .before .before .before .before .if1 .left) (c .before .before .before .loop-test .taken)
-    (c .if2 .taken))
+    (same-at (x .a .now) (x .p) (x .e) (x .b .now) (x .q) (x .f) (start .pre) (head .loop .i) (head .before .if1 .left)
+    (c .before .before .before .loop-test .taken) (c .if2 .taken))
 
 add-i : tie.Need-add-i Inv-loop μ-loop
 add-i c = omega arith
