@@ -4,106 +4,15 @@ use cells::ENTRIES;
 use cells::NODES;
 use cells::PLACE;
 
-// The lines before the pattern, an entry to each, 16 bytes wide: 0 is no byte, 1 stands for the kind, 2 for the space before a place if
-// there is one, 3 for the place; then the word before the pattern.
+// The lines before the pattern, an entry to each, 16 bytes wide, and then the word before the pattern, are a template: `.` is no byte, `#`
+// stands for the kind, `-` for the space before a place if there is one, `_` for the place.
 const LINE: usize = 16;
 
 const MATCH: usize = 6;
 
-const LINES_BYTES: usize = NODES * LINE + MATCH;
-
-const LINES: [u32; LINES_BYTES] = [
-    118,
-    97,
-    114,
-    115,
-    0,
-    0,
-    0,
-    2,
-    3,
-    2,
-    3,
-    2,
-    3,
-    2,
-    3,
-    10,
-    115,
-    121,
-    109,
-    32,
-    112,
-    32,
-    1,
-    2,
-    3,
-    2,
-    3,
-    2,
-    3,
-    2,
-    3,
-    10,
-    115,
-    121,
-    109,
-    32,
-    113,
-    32,
-    1,
-    2,
-    3,
-    2,
-    3,
-    2,
-    3,
-    2,
-    3,
-    10,
-    115,
-    121,
-    109,
-    32,
-    114,
-    32,
-    1,
-    2,
-    3,
-    2,
-    3,
-    2,
-    3,
-    2,
-    3,
-    10,
-    115,
-    121,
-    109,
-    32,
-    115,
-    32,
-    1,
-    2,
-    3,
-    2,
-    3,
-    2,
-    3,
-    2,
-    3,
-    10,
-    109,
-    97,
-    116,
-    99,
-    104,
-    32,
-];
+const TEMPLATE: usize = NODES * LINE + MATCH;
 
 const HEAD: usize = 7;
-
-const STAND_INS: u32 = 4;
 
 pub fn text(trial: &[u32], bytes: &mut [u8]) -> usize {
     let n = lines(trial, bytes);
@@ -126,11 +35,21 @@ fn push(bytes: &mut [u8], n: usize, b: u32) -> usize {
 fn lines(trial: &[u32], bytes: &mut [u8]) -> usize {
     let mut n: usize = 0;
     let mut w: usize = 0;
-    while w < LINES_BYTES {
-        n = push(bytes, n, byte(trial, w / LINE, w % LINE, LINES[w]));
+    while w < TEMPLATE {
+        n = push(bytes, n, byte(trial, w / LINE, w % LINE, template(w)));
         w += 1;
     }
     n
+}
+
+fn template(w: usize) -> u32 {
+    let bytes =
+        b"vars...-_-_-_-_\nsym p #-_-_-_-_\nsym q #-_-_-_-_\nsym r #-_-_-_-_\nsym s #-_-_-_-_\nmatch ";
+    wide(bytes[w % TEMPLATE])
+}
+
+fn wide(b: u8) -> u32 {
+    b as u32
 }
 
 // A byte of the line of an entry, if there is such a symbol.
@@ -139,13 +58,13 @@ fn byte(trial: &[u32], entry: usize, column: usize, b: u32) -> u32 {
     if kind == 0 {
         return 0;
     }
-    if b == 1 {
+    if b == b'#' as u32 {
         return b'0' as u32 + kind % 10;
     }
-    if b == 0 || STAND_INS <= b {
-        return b;
+    if b == b'-' as u32 || b == b'_' as u32 {
+        return place(trial, entry, (column % LINE + LINE - HEAD) / 2 % 8, b);
     }
-    place(trial, entry, (column % LINE + LINE - HEAD) / 2 % 8, b)
+    if b == b'.' as u32 { 0 } else { b }
 }
 
 fn place(trial: &[u32], entry: usize, i: usize, b: u32) -> u32 {
@@ -153,7 +72,7 @@ fn place(trial: &[u32], entry: usize, i: usize, b: u32) -> u32 {
     if cells::at(trial, entry, cells::COUNT) as usize <= i {
         return 0;
     }
-    if b == 2 {
+    if b == b'-' as u32 {
         return b' ' as u32;
     }
     if p == 0 {

@@ -15,11 +15,8 @@ abbrev μ-loop : tie.MeasureT-loop
 loop-holds : tie.Need-loop-holds Inv-loop μ-loop
 loop-holds c = search needs
 
-mul-byte : tie.Need-mul-byte Inv-loop μ-loop
-mul-byte c = search needs
-
-array-read-byte : tie.Need-array-read-byte Inv-loop μ-loop
-array-read-byte c = search needs
+template-requires : tie.Need-template-requires Inv-loop μ-loop
+template-requires c κs = search needs
 
 byte-requires : tie.Need-byte-requires Inv-loop μ-loop
 byte-requires c κs = search needs
@@ -49,8 +46,7 @@ lines-spec =
     Inv-loop
     μ-loop
     loop-holds
-    mul-byte
-    array-read-byte
+    template-requires
     byte-requires
     push-requires
     add-w
