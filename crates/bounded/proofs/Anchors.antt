@@ -188,3 +188,23 @@ none-kept = refl
 pub no-more : (soundBook (book 1 (symbol 1 [] ∷ []) (0 ∷ []) 0 0 (0 ∷ []) false) ≡ true) × (soundState pairs (state 0 (heldAt 2 (bound 3 ∷ []) ∷ [])) ≡ true)
 unfolding bit soundBook soundSymbol soundState soundHeld soundPiece compareDisjuncts
 no-more = (refl, refl)
+
+-- "No room, exactly", and no more: the start has no skip set (the free disjunct taken through these four symbols would be 256 disjuncts), and a
+-- position that nothing follows, with a step set of 64 and a skip set of 128, has no label in which they are joined
+abbrev turning : Book
+turning =
+    book 4
+    (symbol 1 (names 0 ∷ names 1 ∷ names 2 ∷ names 3 ∷ []) ∷ symbol 1 (names 1 ∷ names 2 ∷ names 3 ∷ names 0 ∷ [])
+    ∷ symbol 1 (names 2 ∷ names 3 ∷ names 0 ∷ names 1 ∷ []) ∷ symbol 1 (names 3 ∷ names 0 ∷ names 1 ∷ names 2 ∷ []) ∷ [])
+    (0 ∷ 0 ∷ []) 2 4 (4 ∷ 0 ∷ []) false
+
+abbrev last-joined : Book
+last-joined = book 2 (symbol 1 (names 0 ∷ names 1 ∷ []) ∷ symbol 1 (ignored ∷ names 1 ∷ []) ∷ []) (0 ∷ 1 ∷ []) 2 4 (4 ∷ 0 ∷ []) false
+
+pub no-other-room :
+    (room turning [] (record { kind = 1; args = 1 ∷ 2 ∷ 3 ∷ 4 ∷ [] }) ≡ true)
+    × (room last-joined
+    (map (λ x. heldAt 1 (bound x ∷ free [] ∷ [])) (numbers 2 64) ++ map (λ x. heldAt 2 (free [] ∷ free (x ∷ []) ∷ [])) (numbers 10 64))
+    (record { kind = 1; args = 1 ∷ 900 ∷ [] }) ≡ true)
+unfolding bit matches constraintOf compareDisjuncts skipBy sources stepSet skipSet newLabel newHeld setRoom room
+no-other-room = (refl, refl)

@@ -1,10 +1,10 @@
 -- Answer 9, the order of the checks, and a state as it is stored, by computation from the definitions alone, as Anchors of the crate calls; here,
 -- where no edit computes them again.
 use mathlib.Core.Path.{_≡_, refl}
-use mathlib.Core.Bool.{true, false}
+use mathlib.Core.Bool.{Bool, true, false}
 use mathlib.Core.List.{List, [], _∷_, _++_, map}
-use Prim.Native.Nat.{ℕ}
-use lib.ListN.{replicate, take}
+use Prim.Native.Nat.{ℕ, _-_}
+use lib.ListN.{length, replicate, take}
 use Rattle.laws.specs.Bits.{bit, join, meet, single}
 use Rattle.laws.specs.Parts.{front, splice, pad}
 use Rattle.meaning.specs.Events.{matches, constraintOf}
@@ -35,7 +35,8 @@ use Rattle.row.specs.RowBytes.{wordBytes, rowBytes}
 use Rattle.sound.specs.Soundness.{symbolCounts, bookCounts, bookSound, slotCounts, stateCounts, stateSound}
 use Rattle.calls.specs.Calls.{freshState, rowsBy, stateBy, leavesFreeBy, roomBy, unsound, outOfForm, tooMany, noRoom, noSpace}
 use Rattle.calls.specs.Calls.{answerTo, taken, bufferAfter}
-use Rattle.calls.specs.Answers.{numberOf}
+use Rattle.calls.specs.Answers.{numberOf, placeOf}
+use Rattle.calls.specs.declared.EventAnswer.{EventAnswer}
 use Rattle.calls.specs.Runs.{make}
 use Rattle.calls.specs.Witness.{load}
 use Rattle.calls.proofs.Anchors.{lending, one, full, two}
@@ -98,20 +99,14 @@ other = 9 ∷ replicate 19 0
 
 -- 13 where all is sound (the buffer is too short); 9 for the place of a variable's and of a symbol's name, for a tag, for exclusions at a bound
 -- variable, for a seventh that is counted, for a row that would leave a variable free; 9 before 10, 10 before 11, 11 before 12
-pub nine-first :
+abbrev NineFirst : Type 0
+NineFirst =
     map (λ b. number b (idle 0) other) (named (at 4095 1) (at 0 12) ∷ named (at 4096 1) (at 0 12) ∷ named (at 4095 1) (at 4096 1) ∷ tagged 1 ∷ tagged 2 ∷ [])
     ++ (map (λ s. number one s other) (holding (slot 0) ∷ holding (slot 1) ∷ holding (loose 6) ∷ holding (loose 7) ∷ [])
     ++ (number unbound (idle 0) (1 ∷ replicate 19 0) ∷ number unbound (idle 1000000) (1 ∷ replicate 19 0)
     ∷ number unbound (idle 0) (1 ∷ 0 ∷ 1 ∷ replicate 17 0) ∷ number one (idle 1000001) [] ∷ number one (idle 1000000) []
     ∷ number two (stateOf (record { number = 1000000; held = heldAt 1 (bound 1 ∷ free (1 ∷ 2 ∷ 3 ∷ 4 ∷ 5 ∷ 6 ∷ []) ∷ []) ∷ [] })) (load 1 7) ∷ []))
     ≡ (13 ∷ 9 ∷ 9 ∷ 13 ∷ 9 ∷ []) ++ ((13 ∷ 9 ∷ 13 ∷ 9 ∷ []) ++ (9 ∷ 9 ∷ 10 ∷ 9 ∷ 10 ∷ 11 ∷ []))
-unfolding bit join meet single pad matches constraintOf soundBook soundSymbol compareDisjuncts skipBy sources stepSet skipSet newLabel newHeld
-    setRoom room rows leavesFree soundPiece soundHeld soundState spacesEnd wordEnd nameEnd nextWord nameFault kindOf wantWord kindFrom symbolFrom
-    linesOf itemOf nameAtom closed alternationFrom patternFrom lastLine matchFrom readingOf symbolOf tableOf viewSymbol wordAt argumentsIn isRecord
-    eventIn viewSlot slotOf viewDisjunct disjunctOf readingFor bookFor viewBook stateOf heldFirst viewState symbolCounts bookCounts bookSound
-    slotCounts stateCounts stateSound freshState rowsBy stateBy leavesFreeBy roomBy unsound outOfForm tooMany noRoom noSpace answerTo taken make
-    bufferAfter rowBytes wordBytes splice front tallied capped
-nine-first = refl
 
 -- What no count reaches is not judged: names, symbols and positions beyond the book's, a symbol's places beyond its own, places of the pool that
 -- are not taken, variables beyond the book's, exclusions that are not counted, the value of a free variable. A count beyond its array is 9: 17
@@ -151,23 +146,128 @@ spareState =
 abbrev holdsMany : (counted : ℕ) → State
 holdsMany n = record { number = 1; count = n; positions = full .positions; pool = full .pool }
 
-pub counted-only :
+abbrev CountedOnly : Type 0
+CountedOnly =
     number spare spareState other ∷ number (filled 16 31) (idle 0) other ∷ number (filled 17 31) (idle 0) other ∷ number (filled 16 32) (idle 0) other
     ∷ number one (holdsMany 128) other ∷ number one (holdsMany 129) other ∷ []
     ≡ 13 ∷ 13 ∷ 9 ∷ 9 ∷ 13 ∷ 9 ∷ []
+
+-- 13 where all is sound, 9 where one number of the structs is out of its range: the views hide nothing
+abbrev struct : (variables symbols : ℕ) → List Name → List Symbol → (positions : ℕ) → List ℕ → (begins ends : ℕ) → List ℕ → Bool → Book
+struct v y ns ys p os b e fs x =
+    record { variables = v; symbols = y; names = ns; table = ys; positions = p; occurrences = os; begins = b; ends = e; follows = fs; empty = x }
+
+abbrev placed : List Name
+placed = replicate 20 (at 0 1)
+
+abbrev place : (tag number : ℕ) → Parameter
+place t n = record { tag = t; number = n }
+
+abbrev symbols : (kind tag number : ℕ) → List Symbol
+symbols k t n = replicate 16 (record { kind = k; count = 1; parameters = place t n ∷ replicate 3 (place 0 0) })
+
+-- `vars d`, `sym a 1 d`, `match a a` with another pattern
+abbrev patterned : (positions : ℕ) → List ℕ → (begins ends : ℕ) → List ℕ → Bool → Book
+patterned p os b e fs x = struct 1 1 placed (symbols 1 1 0) p (os ++ replicate 29 0) b e (fs ++ replicate 29 0) x
+
+abbrev declaring : (variables symbols kind tag number : ℕ) → Book
+declaring v y k t n = struct v y placed (symbols k t n) 2 (replicate 31 0) 2 4 (4 ∷ replicate 30 0) false
+
+-- a name as long as a text, and any number beside an ignored place
+abbrev longNamed : Book
+longNamed = struct 1 1 (at 0 13 ∷ at 0 4096 ∷ replicate 18 (at 0 0)) (symbols 1 0 77) 2 (replicate 31 0) 2 4 (4 ∷ replicate 30 0) false
+
+abbrev StructBooks : Type 0
+StructBooks =
+    map (λ b. number b (idle 0) other)
+    (declaring 1 1 1 1 0 ∷ longNamed ∷ declaring 4 16 255 1 3 ∷ patterned 2 (0 ∷ 0 ∷ []) 0 0 (0 ∷ 0 ∷ []) false
+    ∷ declaring 5 1 1 1 0 ∷ declaring 1 0 1 1 0 ∷ declaring 1 1 0 1 0 ∷ declaring 1 1 256 1 0 ∷ declaring 1 1 1 1 1 ∷ declaring 1 1 1 2 0
+    ∷ patterned 0 (0 ∷ 0 ∷ []) 0 0 (0 ∷ 0 ∷ []) false ∷ patterned 2 (0 ∷ 1 ∷ []) 2 4 (4 ∷ 0 ∷ []) false ∷ patterned 2 (0 ∷ 0 ∷ []) 3 4 (4 ∷ 0 ∷ []) false
+    ∷ patterned 2 (0 ∷ 0 ∷ []) 10 4 (4 ∷ 0 ∷ []) false ∷ patterned 2 (0 ∷ 0 ∷ []) 2 5 (4 ∷ 0 ∷ []) false ∷ patterned 2 (0 ∷ 0 ∷ []) 2 12 (4 ∷ 0 ∷ []) false
+    ∷ patterned 2 (0 ∷ 0 ∷ []) 2 4 (5 ∷ 0 ∷ []) false ∷ patterned 2 (0 ∷ 0 ∷ []) 2 4 (4 ∷ 8 ∷ []) false ∷ patterned 2 (0 ∷ 0 ∷ []) 2 4 (4 ∷ 0 ∷ []) true ∷ [])
+    ≡ replicate 4 13 ++ replicate 15 9
+
+-- the same of a state: what is held, one disjunct after the other, of the book `one`
+abbrev slotted : Bool → (value count : ℕ) → List ℕ → Slot
+slotted b v n xs = record { bound = b; value = v; count = n; excluded = xs }
+
+abbrev having : List ℕ → List Slot → State
+having ps xs =
+    record {
+      number = 1;
+      count = length ps;
+      positions = ps ++ replicate (128 - length ps) 0;
+      pool = map (λ x. record { vars = x ∷ replicate 3 (slotOf (free [])) }) xs ++ replicate (128 - length xs) (disjunctOf []);
+    }
+
+abbrev value : ℕ → Slot
+value x = slotted true x 0 (replicate 6 77)
+
+abbrev without : List ℕ → Slot
+without xs = slotted false 77 (length xs) (xs ++ replicate (6 - length xs) 77)
+
+-- held before any event
+abbrev early : State
+early = record { number = 0; count = 1; positions = 1 ∷ replicate 127 0; pool = having (1 ∷ []) (value 5 ∷ []) .pool }
+
+abbrev StructStates : Type 0
+StructStates =
+    map (λ s. number one s other)
+    (early ∷ having (1 ∷ 1 ∷ 1 ∷ 2 ∷ []) (without [] ∷ without (7 ∷ 9 ∷ []) ∷ value 5 ∷ value 0 ∷ [])
+    ∷ having (0 ∷ []) (value 5 ∷ []) ∷ having (0 ∷ 1 ∷ []) (value 5 ∷ value 6 ∷ []) ∷ having (3 ∷ []) (value 5 ∷ [])
+    ∷ having (1 ∷ 1 ∷ []) (value 6 ∷ value 5 ∷ []) ∷ having (1 ∷ 1 ∷ []) (value 5 ∷ value 5 ∷ []) ∷ having (2 ∷ 1 ∷ []) (value 5 ∷ value 6 ∷ [])
+    ∷ having (1 ∷ 1 ∷ 1 ∷ []) (value 5 ∷ value 7 ∷ value 6 ∷ []) ∷ having (1 ∷ []) (without (9 ∷ 7 ∷ []) ∷ []) ∷ having (1 ∷ []) (without (7 ∷ 7 ∷ []) ∷ [])
+    ∷ having (1 ∷ []) (without (5 ∷ 9 ∷ 7 ∷ []) ∷ []) ∷ [])
+    ≡ 13 ∷ 13 ∷ replicate 10 9
+
+-- "9, 0" to "13, 0"
+pub no-place : (a : EventAnswer) → placeOf a ≡ 0
+no-place a = refl
+
+-- each symbol, each variable and each disjunct is judged, not one for all
+abbrev tags : List ℕ → Book
+tags ts =
+    struct 1 2 placed
+    (map (λ t. record { kind = 1; count = 1; parameters = place t 0 ∷ replicate 3 (place 0 0) }) ts
+    ++ replicate 14 (record { kind = 1; count = 0; parameters = replicate 4 (place 0 0) })) 2 (replicate 31 0) 2 4 (4 ∷ replicate 30 0) false
+
+abbrev having-two : List (List Slot) → State
+having-two xs =
+    record {
+      number = 1;
+      count = length xs;
+      positions = replicate 128 1;
+      pool = map (λ x. record { vars = x ++ replicate 2 (slotOf (free [])) }) xs ++ replicate (128 - length xs) (disjunctOf []);
+    }
+
+abbrev EachJudged : Type 0
+EachJudged =
+    map (λ b. number b (idle 0) other) (tags (0 ∷ 1 ∷ []) ∷ tags (2 ∷ 1 ∷ []) ∷ tags (1 ∷ 2 ∷ []) ∷ [])
+    ++ map (λ s. number two s other)
+    (having-two ((value 5 ∷ value 6 ∷ []) ∷ (value 5 ∷ value 7 ∷ []) ∷ [])
+    ∷ having-two ((value 5 ∷ slotted true 6 1 (replicate 6 0) ∷ []) ∷ []) ∷ having-two ((slotted true 5 1 (replicate 6 0) ∷ value 6 ∷ []) ∷ [])
+    ∷ having-two ((value 5 ∷ value 6 ∷ []) ∷ (value 5 ∷ slotted true 7 1 (replicate 6 0) ∷ []) ∷ [])
+    ∷ having-two ((value 5 ∷ slotted false 0 7 (1 ∷ 2 ∷ 3 ∷ 4 ∷ 5 ∷ 6 ∷ []) ∷ []) ∷ []) ∷ [])
+    ≡ (13 ∷ 9 ∷ 9 ∷ []) ++ (13 ∷ 9 ∷ 9 ∷ 9 ∷ 9 ∷ [])
+
+pub refusals : NineFirst × CountedOnly × StructBooks × StructStates × EachJudged
 unfolding bit join meet single pad matches constraintOf soundBook soundSymbol compareDisjuncts skipBy sources stepSet skipSet newLabel newHeld
     setRoom room rows leavesFree soundPiece soundHeld soundState spacesEnd wordEnd nameEnd nextWord nameFault kindOf wantWord kindFrom symbolFrom
     linesOf itemOf nameAtom closed alternationFrom patternFrom lastLine matchFrom readingOf symbolOf tableOf viewSymbol wordAt argumentsIn isRecord
     eventIn viewSlot slotOf viewDisjunct disjunctOf readingFor bookFor viewBook stateOf heldFirst viewState symbolCounts bookCounts bookSound
     slotCounts stateCounts stateSound freshState rowsBy stateBy leavesFreeBy roomBy unsound outOfForm tooMany noRoom noSpace answerTo taken make
     bufferAfter rowBytes wordBytes splice front tallied capped
-counted-only = refl
+refusals = (refl, refl, refl, refl, refl)
 
--- "Held disjuncts stand by position, …": what is held stands in the first places of the pool, in its order, the others are free
-abbrev kept : State
-kept = stateOf (record { number = 3; held = heldAt 1 (free (7 ∷ 8 ∷ []) ∷ []) ∷ heldAt 2 (bound 5 ∷ []) ∷ [] })
-
-pub stored : (take 3 (kept .positions) ≡ 1 ∷ 2 ∷ 0 ∷ [])
-    × (map (λ d. take 2 (viewDisjunct d)) (take 3 (kept .pool)) ≡ (free (7 ∷ 8 ∷ []) ∷ free [] ∷ []) ∷ (bound 5 ∷ free [] ∷ []) ∷ (free [] ∷ free [] ∷ []) ∷ [])
-unfolding stateOf pad disjunctOf slotOf viewDisjunct viewSlot
-stored = (refl, refl)
+-- "Held disjuncts stand by position, …": what is held stands in the first places of the pool, in its order; every number of the struct
+pub stored : stateOf (record { number = 3; held = heldAt 1 (free (7 ∷ 8 ∷ []) ∷ bound 6 ∷ []) ∷ heldAt 2 (bound 5 ∷ free [] ∷ []) ∷ [] })
+    ≡ record {
+      number = 3;
+      count = 2;
+      positions = 1 ∷ 2 ∷ replicate 126 0;
+      pool = record { vars = slotted false 0 2 (7 ∷ 8 ∷ replicate 4 0) ∷ slotted true 6 0 (replicate 6 0) ∷ replicate 2 (slotted false 0 0 (replicate 6 0)) }
+          ∷ record { vars = slotted true 5 0 (replicate 6 0) ∷ replicate 3 (slotted false 0 0 (replicate 6 0)) }
+          ∷ replicate 126 (record { vars = replicate 4 (slotted false 0 0 (replicate 6 0)) });
+    }
+unfolding stateOf pad disjunctOf slotOf
+stored = refl

@@ -60,22 +60,22 @@ wanted (accepts s r) =
     }
 wanted (refuses s n p) = refusal (refused (fail n p))
 
-abbrev line : String → ℕ → List Parameter → SymbolLine
+abbrev pub line : String → ℕ → List Parameter → SymbolLine
 line w k ps = record { name = ascii w; kind = k; parameters = ps }
 
-abbrev span : ℕ → ℕ → Span
+abbrev pub span : ℕ → ℕ → Span
 span p n = record { start = p; size = n }
 
 -- `vars`, `sym a 1` and a pattern of this one symbol
-abbrev one : Bytes → Regex → Read
+abbrev pub one : Bytes → Regex → Read
 one p r =
     record { declared = record { variables = []; symbols = line "a" 1 [] ∷ [] }; written = p; variables = []; symbols = span 9 1 ∷ []; tree = r }
 
-abbrev oneText : Bytes → Bytes
+abbrev pub oneText : Bytes → Bytes
 oneText p = ascii "vars\nsym a 1\nmatch " ++ (p ++ ascii "\n")
 
 -- a word so many times
-abbrev times : ℕ → String → Bytes
+abbrev pub times : ℕ → String → Bytes
 times n w = gather ascii (replicate n w)
 
 -- the first symbol, and so many times more

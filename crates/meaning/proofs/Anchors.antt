@@ -13,7 +13,7 @@ use Rattle.laws.specs.Bits.{bit, join, meet, single}
 use Rattle.laws.specs.Lists.{all}
 use Rattle.laws.specs.Order.{ascending}
 use Rattle.pattern.specs.Regex.{lit}
-use Rattle.meaning.specs.Events.{Event, names, matches, constraintOf, wellFormed, isValuation, holds, concerns}
+use Rattle.meaning.specs.Events.{Event, ignored, names, matches, constraintOf, wellFormed, isValuation, holds, concerns}
 use Rattle.meaning.specs.Meaning.{Tracematch, noEvent, Row}
 use Rattle.meaning.specs.Book.{bookOf, isProper, soundSymbol}
 use Rattle.meaning.specs.Labels.{bound, free, compareDisjuncts, skipBy, sources, stepSet, skipSet, newLabel, newHeld}
@@ -124,3 +124,11 @@ crossing = record { keeps = keeps }
     keeps zero zero h k d = absurd (omega arith)
     keeps zero (suc (suc j)) h k d = absurd (omega arith)
     keeps (suc i) j h k d = absurd (omega arith)
+
+-- "the event's argument count equals the symbol's", also where what is more is zero and what is missing is ignored; an ignored argument is
+-- any, zero too: `a 1 d _` under d = 5
+pub counts-equal : map (λ xs. holds (record { kind = 1; parameters = names 0 ∷ ignored ∷ [] }) (record { kind = 1; args = xs }) (5 ∷ []))
+    ((5 ∷ 0 ∷ []) ∷ (5 ∷ 9 ∷ []) ∷ (5 ∷ []) ∷ (5 ∷ 9 ∷ 0 ∷ []) ∷ (6 ∷ 9 ∷ []) ∷ [])
+    ≡ true ∷ true ∷ false ∷ false ∷ false ∷ []
+unfolding holds
+counts-equal = refl

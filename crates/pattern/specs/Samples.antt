@@ -85,4 +85,22 @@ table =
     ((1 ∷ 2 ∷ 3 ∷ []) ∷ (3 ∷ []) ∷ [] ∷ [])
     ∷ sample (cat c (cat (opt b) (star a))) false (2 ∷ []) (1 ∷ []) (1 ∷ 2 ∷ 3 ∷ []) (2 ∷ 1 ∷ 0 ∷ [])
     ((2 ∷ 3 ∷ []) ∷ (3 ∷ []) ∷ (3 ∷ []) ∷ [])
+    -- (a? | b) c, and (a | b*) c: the empty word of either side
+    ∷ sample (cat (alt (opt a) b) c) false (2 ∷ []) (1 ∷ 2 ∷ 3 ∷ []) (3 ∷ []) (0 ∷ 1 ∷ 2 ∷ []) ((3 ∷ []) ∷ (3 ∷ []) ∷ [] ∷ [])
+    ∷ sample (cat (alt a (star b)) c) false (2 ∷ []) (1 ∷ 2 ∷ 3 ∷ []) (3 ∷ []) (0 ∷ 1 ∷ 2 ∷ []) ((3 ∷ []) ∷ (2 ∷ 3 ∷ []) ∷ [] ∷ [])
+    -- c (a? | b), and c (a | b*)
+    ∷ sample (cat c (alt (opt a) b)) false (2 ∷ []) (1 ∷ []) (1 ∷ 2 ∷ 3 ∷ []) (2 ∷ 0 ∷ 1 ∷ []) ((2 ∷ 3 ∷ []) ∷ [] ∷ [] ∷ [])
+    ∷ sample (cat c (alt a (star b))) false (2 ∷ []) (1 ∷ []) (1 ∷ 2 ∷ 3 ∷ []) (2 ∷ 0 ∷ 1 ∷ []) ((2 ∷ 3 ∷ []) ∷ [] ∷ (3 ∷ []) ∷ [])
+    -- (a?)+ b, and b (a*)+: what is repeated has the empty word
+    ∷ sample (cat (plus (opt a)) b) false (1 ∷ []) (1 ∷ 2 ∷ []) (2 ∷ []) (0 ∷ 1 ∷ []) ((1 ∷ 2 ∷ []) ∷ [] ∷ [])
+    ∷ sample (cat b (plus (star a))) false (1 ∷ []) (1 ∷ []) (1 ∷ 2 ∷ []) (1 ∷ 0 ∷ []) ((2 ∷ []) ∷ (2 ∷ []) ∷ [])
+    -- (a | b)*, a? b*, (a+)?
+    ∷ sample (star (alt a b)) true [] (1 ∷ 2 ∷ []) (1 ∷ 2 ∷ []) (0 ∷ 1 ∷ []) ((1 ∷ 2 ∷ []) ∷ (1 ∷ 2 ∷ []) ∷ [])
+    ∷ sample (cat (opt a) (star b)) true [] (1 ∷ 2 ∷ []) (1 ∷ 2 ∷ []) (0 ∷ 1 ∷ []) ((2 ∷ []) ∷ (2 ∷ []) ∷ [])
+    ∷ sample (opt (plus a)) true [] (1 ∷ []) (1 ∷ []) (0 ∷ []) ((1 ∷ []) ∷ [])
+    -- (a b | c)+ a, and (a b | c a) b: what both sides bind
+    ∷ sample (cat (plus (alt (cat a b) c)) a) false (0 ∷ []) (1 ∷ 3 ∷ []) (4 ∷ []) (0 ∷ 1 ∷ 2 ∷ 0 ∷ [])
+    ((2 ∷ []) ∷ (1 ∷ 3 ∷ 4 ∷ []) ∷ (1 ∷ 3 ∷ 4 ∷ []) ∷ [] ∷ [])
+    ∷ sample (cat (alt (cat a b) (cat c a)) b) false (0 ∷ 1 ∷ []) (1 ∷ 3 ∷ []) (5 ∷ []) (0 ∷ 1 ∷ 2 ∷ 0 ∷ 1 ∷ [])
+    ((2 ∷ []) ∷ (5 ∷ []) ∷ (4 ∷ []) ∷ (5 ∷ []) ∷ [] ∷ [])
     ∷ []

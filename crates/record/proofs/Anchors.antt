@@ -30,3 +30,15 @@ pub in-form : map isRecord
     ≡ true ∷ true ∷ true ∷ replicate 7 false
 unfolding isRecord argumentsIn wordAt
 in-form = refl
+
+-- three arguments are in form; each argument beyond the count is judged by itself
+pub each-word : map isRecord
+    ((1 ∷ 3 ∷ 0 ∷ 0 ∷ replicate 12 255 ++ replicate 4 0)
+    ∷ (1 ∷ 0 ∷ 0 ∷ 0 ∷ 1 ∷ replicate 15 0)
+    ∷ (1 ∷ 1 ∷ 0 ∷ 0 ∷ replicate 4 0 ++ (1 ∷ replicate 11 0))
+    ∷ (1 ∷ 1 ∷ 0 ∷ 0 ∷ replicate 8 0 ++ (1 ∷ replicate 7 0))
+    ∷ (1 ∷ 1 ∷ 0 ∷ 0 ∷ replicate 12 0 ++ (1 ∷ replicate 3 0))
+    ∷ [])
+    ≡ true ∷ replicate 4 false
+unfolding isRecord argumentsIn wordAt
+each-word = refl

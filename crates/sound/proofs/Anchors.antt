@@ -43,3 +43,13 @@ name p n = record { start = p; size = n }
 pub names : map namePlaced (name 0 0 ∷ name 4095 1 ∷ name 4096 0 ∷ name 4096 1 ∷ name 4090 7 ∷ name (2 ^ 60) 0 ∷ name 0 (2 ^ 60) ∷ [])
     ≡ true ∷ true ∷ true ∷ false ∷ false ∷ false ∷ false ∷ []
 names = refl
+
+-- no more is asked of a name than that it ends where a text may end, however long it is
+pub long-names : map namePlaced (name 0 13 ∷ name 100 3996 ∷ name 0 4096 ∷ []) ≡ true ∷ true ∷ true ∷ []
+long-names = refl
+
+-- not judged: the number beside an ignored place, and exclusions at a bound variable that are not counted
+pub not-judged : (symbolCounts (symbol 2 (record { tag = 0; number = 77 } ∷ record { tag = 1; number = 3 } ∷ replicate 2 (tagged 0))) ≡ true)
+    × (slotCounts (record { bound = true; value = 9; count = 0; excluded = replicate 6 7 }) ≡ true)
+unfolding symbolCounts slotCounts
+not-judged = (refl, refl)

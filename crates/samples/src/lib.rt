@@ -1,0 +1,1 @@
+// Facts only: what the definitions of texts and books compute. See proofs/.
