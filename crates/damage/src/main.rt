@@ -1,9 +1,5 @@
 // Damaged books, states, records, places, buffers and tallies, from a generator with a fixed start, are lent to the event call, and all
 // that it leaves is compared with what document 01 says. Prints how many cases there were, how they were answered, and the differences.
-mod leaving;
-mod lending;
-mod moves;
-
 use book::Book;
 use corrupted::amounts;
 use corrupted::records;
@@ -12,8 +8,11 @@ use corrupted::sizes::BUFFER;
 use corrupted::sizes::RECORD_ROOM;
 use corrupted::sizes::ROW_BYTES;
 use corrupted::states;
-use leaving::Left;
-use lending::Space;
+use expected::leaving;
+use expected::leaving::Left;
+use expected::lending;
+use expected::lending::Space;
+use expected::moves;
 use state::State;
 use tally::Tally;
 use watch::Taken;

@@ -1,10 +1,10 @@
--- `damage::leaving::put_row` is safe and ends: the bytes of the row are counted.
+-- `expected::leaving::put_row` is safe and ends: the bytes of the row are counted.
 use Prim.Native.Nat.{_≤_, _-_}
 use mathlib.Core.Path.{_≡_}
 use lib.ListN.{length}
 use borrow.Author.Needs.{needs}
-use Rattle.damage.proofs.leaving.put_row.Statement.{statement}
-use Rattle.damage.proofs.leaving.put_row.Tie as tie
+use Rattle.expected.proofs.leaving.put_row.Statement.{statement}
+use Rattle.expected.proofs.leaving.put_row.Tie as tie
 
 abbrev Inv-loop : tie.InvT-loop
 Inv-loop out₀ place bytes i₀ out i = (i ≤ 24) × (length out ≡ length out₀) × (length bytes ≡ 24)

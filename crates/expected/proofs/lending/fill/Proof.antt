@@ -1,10 +1,10 @@
--- `damage::lending::fill` is safe and ends: the index is counted up to the length.
+-- `expected::lending::fill` is safe and ends: the index is counted up to the length.
 use Prim.Native.Nat.{_-_}
 use mathlib.Core.Path.{_≡_}
 use lib.ListN.{length}
 use borrow.Author.Needs.{needs}
-use Rattle.damage.proofs.lending.fill.Statement.{statement}
-use Rattle.damage.proofs.lending.fill.Tie as tie
+use Rattle.expected.proofs.lending.fill.Statement.{statement}
+use Rattle.expected.proofs.lending.fill.Tie as tie
 
 abbrev Inv-loop : tie.InvT-loop
 Inv-loop seed out₀ i₀ out i = length out ≡ length out₀
