@@ -1,19 +1,22 @@
 -- Where the disjuncts of a new state stem from: members of labels, of sources, of skip sets, and of all new labels.
 use mathlib.Core.Path.{_≡_, refl}
-use mathlib.Core.Bool.{Bool, true, false, cond}
+use mathlib.Core.Bool.{Bool, true, false, cond, not, false≢true}
 use mathlib.Core.List.{List, [], _∷_, map, List·Memᴰ}
-use mathlib.Core.List.{List·Memᴰ·not-nil, List·Memᴰ·eq-of-singleton, List·Memᴰ·append-cases}
-use mathlib.Core.Logic.{_⊎_, inl, inr, ⊎-map, ⊎-swap}
-use Prim.Native.Nat.{ℕ}
+use mathlib.Core.List.{List·Memᴰ·head, List·Memᴰ·not-nil, List·Memᴰ·eq-of-singleton, List·Memᴰ·append-cases, Memᴰ·append-left, Memᴰ·append-right}
+use mathlib.Core.Logic.{_↔_, _⊎_, inl, inr, ⊎-map, ⊎-swap, ⊎-elim}
+use Prim.Native.Nat.{ℕ, _-_}
 use lib.Dec.{eqb}
-use borrow.Author.Tests.{eqb-true}
+use lib.ListN.{getD, replicate}
+use borrow.Author.Tests.{eqb-true, eqb-false, ne-eqb}
+use Rattle.laws.specs.Bits.{bit}
 use Rattle.laws.specs.Lists.{keep}
 use Rattle.laws.proofs.Lists.{mem-picked}
 use Rattle.meaning.specs.Events.{Symbol, Event, Demand, Constraint, never, demands, constraintOf}
 use Rattle.meaning.specs.Book.{Book, positions, beginsAt, followsAt}
-use Rattle.meaning.specs.Labels.{Disjunct, freeDisjunct, entryOf, isFree, meetsAll, exclude, skipOne, skipBy, skipThrough}
+use Rattle.meaning.specs.Meaning.{noSymbol}
+use Rattle.meaning.specs.Labels.{Disjunct, free, meets, met, newLabel, freeDisjunct, entryOf, isFree, meetsAll, exclude, skipOne, skipBy, skipThrough}
 use Rattle.meaning.specs.Labels.{Held, labelOf, sources, stepSet, skipSet, newHeld}
-use Rattle.automaton.proofs.Members.{skipBy-member, newLabel-member, newHeld-member}
+use Rattle.automaton.proofs.Members.{skipBy-member, stepSet-member, newLabel-member, newHeld-member}
 
 pub label-held : (held : List Held) (p : ℕ) {D : Disjunct} → List·Memᴰ D (labelOf held p)
     → (h : Held) × List·Memᴰ h held × (h .position ≡ p) × (D ≡ h .disjunct)
@@ -68,3 +71,39 @@ module _ (b : Book) (held : List Held) where
   pub new-cases : (e : Event) (h : Held) → List·Memᴰ h (newHeld b held e) → List·Memᴰ (h .position) (positions b)
       × (List·Memᴰ (h .disjunct) (skipSet b held e (h .position)) ⊎ List·Memᴰ (h .disjunct) (stepSet b held e (h .position)))
   new-cases e h m = let r = newHeld-member b held e h m in (r .0, ⊎-swap (newLabel-member b held e (h .position) (h .disjunct) .0 (r .1) .1))
+
+  -- "The step set of q: its symbol's constraint met with each disjunct of the start (if q begins) and of each position that q follows", of any position
+  -- of any book, in no other words than the book's own fields
+  source-from : (q : ℕ) (D : Disjunct) → ((beginsAt b q ≡ true) × (D ≡ freeDisjunct (b .variables)))
+      ⊎ ((h : Held) × List·Memᴰ h held × (followsAt b (h .position) q ≡ true) × (D ≡ h .disjunct)) → List·Memᴰ D (sources b held q)
+  unfolding sources
+  source-from q D (inl (k, x)) = rw k (List·Memᴰ·head x)
+  source-from q D (inr r) =
+      Memᴰ·append-right (cond (beginsAt b q) (freeDisjunct (b .variables) ∷ []) [])
+      (mem-picked (λ h. followsAt b (h .position) q) (λ h. h .disjunct) D held .1 r)
+
+  pub step-rule : (e : Event) (q : ℕ) (D : Disjunct) → let c = constraintOf (getD (b .symbols) (getD (b .occurrences) (q - 1) 0) noSymbol) e in
+      List·Memᴰ D (stepSet b held e q)
+      ↔ ((S : Disjunct)
+      × (((bit q (b .begins) ≡ true) × (S ≡ replicate (b .variables) (free [])))
+      ⊎ ((h : Held) × List·Memᴰ h held × (bit q (getD (b .follows) (h .position - 1) 0) ≡ true) × (S ≡ h .disjunct)))
+      × (meets S c ≡ true) × (D ≡ met S c))
+  step-rule e q D = (
+    λ m. let (S, n, x, y) = stepSet-member b held e q D .0 m in (S, source-cases q n, x, y),
+    λ (S, n, x, y). stepSet-member b held e q D .1 (S, source-from q S n, x, y),
+  )
+
+  -- "New label: both sets joined. A position that nothing follows keeps none.", of any position of any book
+  pub label-rule : (e : Event) (p : ℕ) (D : Disjunct) → List·Memᴰ D (newLabel b held e p)
+      ↔ ((getD (b .follows) (p - 1) 0 ≡ 0 → ⊥)
+      × (List·Memᴰ D (stepSet b held e p)
+      ⊎ List·Memᴰ D (skipThrough (map (λ y. constraintOf y e) (b .symbols)) (map (λ h. h .disjunct) (keep (λ h. eqb (h .position) p) held)))))
+  unfolding skipSet
+  label-rule e p D = (
+    λ m. let (g, r) = newLabel-member b held e p D .0 m in (eqb-false (getD (b .follows) (p - 1) 0) 0 (off _ g), r),
+    λ (g, r). newLabel-member b held e p D .1 (rw (ne-eqb (getD (b .follows) (p - 1) 0) 0 g), r),
+  )
+    where
+      off : (z : Bool) → not z ≡ true → z ≡ false
+      off true h = absurd (false≢true h)
+      off false h = refl

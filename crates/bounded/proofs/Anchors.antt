@@ -208,3 +208,48 @@ pub no-other-room :
     (record { kind = 1; args = 1 ∷ 900 ∷ [] }) ≡ true)
 unfolding bit matches constraintOf compareDisjuncts skipBy sources stepSet skipSet newLabel newHeld setRoom room
 no-other-room = (refl, refl)
+
+-- "some step set, or some skip set after one of its symbols", of every position: also of one that nothing follows and at which no word ends, where
+-- a step set of 129 and a seventh exclusion have no room; and a skip set of 130, not one of 128, at a position that nothing follows. A step set is not
+-- counted with the skip sets on the way: 1 and 128 at a position that goes on; nor are the new labels of other positions: 1 at the first, 128 on the way
+-- at the second.
+abbrev inner : ℕ → List Symbol → Book
+inner v ss = book v ss (0 ∷ 1 ∷ []) 4 0 (4 ∷ 0 ∷ []) false
+
+abbrev lone : Book
+lone = book 2 (symbol 1 (names 0 ∷ names 1 ∷ []) ∷ []) (0 ∷ 0 ∷ []) 2 4 (4 ∷ 0 ∷ []) false
+
+abbrev spread : (position count : ℕ) → List Held
+spread p n = map (λ x. heldAt p (free [] ∷ free (x ∷ []) ∷ [])) (numbers 10 n)
+
+pub every-position :
+    (room (inner 2 apart) (map (λ x. heldAt 1 (bound x ∷ free [] ∷ [])) (numbers 0 128)) (record { kind = 2; args = 900 ∷ [] }) ≡ false)
+    × (room (inner 1 (symbol 1 (names 0 ∷ []) ∷ symbol 1 (names 0 ∷ []) ∷ [])) (heldAt 2 (free (1 ∷ 2 ∷ 3 ∷ 4 ∷ 5 ∷ 6 ∷ []) ∷ []) ∷ [])
+    (record { kind = 1; args = 7 ∷ [] }) ≡ false)
+    × (room lone (spread 2 64) (record { kind = 1; args = 1 ∷ 900 ∷ [] }) ≡ true)
+    × (room lone (spread 2 65) (record { kind = 1; args = 1 ∷ 900 ∷ [] }) ≡ false)
+    × (room (book 2 (symbol 1 (names 0 ∷ names 1 ∷ []) ∷ symbol 1 (ignored ∷ ignored ∷ []) ∷ []) (0 ∷ 0 ∷ []) 2 4 (4 ∷ 0 ∷ []) false) (spread 1 64)
+    (record { kind = 1; args = 1 ∷ 900 ∷ [] }) ≡ true)
+    × (room (book 2 (symbol 1 (names 0 ∷ names 1 ∷ []) ∷ symbol 1 (ignored ∷ ignored ∷ []) ∷ []) (0 ∷ 0 ∷ 0 ∷ []) 2 8 (4 ∷ 8 ∷ 0 ∷ []) false) (spread 2 64)
+    (record { kind = 1; args = 1 ∷ 900 ∷ [] }) ≡ true)
+unfolding bit matches constraintOf compareDisjuncts skipBy sources stepSet skipSet newLabel newHeld setRoom room
+every-position = (refl, refl, refl, refl, refl, refl)
+
+-- a position that nothing follows keeps none, though no word ends there; any other keeps its label, though no word ends behind it or none comes
+-- to it; and a row that would leave a variable free is one also where the pattern goes on
+pub inner-positions :
+    (newHeld (inner 1 (symbol 1 (names 0 ∷ []) ∷ symbol 2 [] ∷ [])) (heldAt 2 (bound 3 ∷ []) ∷ []) (record { kind = 1; args = 5 ∷ [] }) ≡ [])
+    × (newHeld (book 1 (symbol 1 (names 0 ∷ []) ∷ []) (0 ∷ 0 ∷ []) 2 0 (4 ∷ 0 ∷ []) false) [] (record { kind = 1; args = 5 ∷ [] })
+    ≡ heldAt 1 (bound 5 ∷ []) ∷ [])
+    × (newHeld (book 1 (symbol 1 (names 0 ∷ []) ∷ []) (0 ∷ 0 ∷ []) 0 4 (4 ∷ 0 ∷ []) false) (heldAt 1 (bound 3 ∷ []) ∷ []) (record { kind = 1; args = 5 ∷ [] })
+    ≡ heldAt 1 (bound 3 ∷ []) ∷ [])
+    × (leavesFree (book 2 apart (0 ∷ 1 ∷ []) 2 2 (4 ∷ 0 ∷ []) false) [] (record { kind = 1; args = 4 ∷ [] }) ≡ true)
+unfolding bit matches constraintOf compareDisjuncts skipBy sources stepSet skipSet newLabel newHeld leavesFree
+inner-positions = (refl, refl, refl, refl)
+
+-- a symbol that the pattern does not name is judged like the others
+pub unnamed-judged : map (λ y. soundBook (book 1 (symbol 1 (names 0 ∷ []) ∷ y ∷ []) (0 ∷ 0 ∷ []) 2 4 (4 ∷ 0 ∷ []) false))
+    (symbol 255 (names 0 ∷ []) ∷ symbol 0 (names 0 ∷ []) ∷ symbol 256 (names 0 ∷ []) ∷ symbol 1 (replicate 5 ignored) ∷ symbol 1 (names 1 ∷ []) ∷ [])
+    ≡ true ∷ replicate 4 false
+unfolding bit soundBook soundSymbol
+unnamed-judged = refl

@@ -2,17 +2,18 @@
 -- leaves all but the refused counter, and an event has few rows.
 use mathlib.Core.Path.{_≡_, refl, sym, ap, _∙_}
 use mathlib.Core.Bool.{Bool, true, false, cond, not, _&&_, _||_, and-false, or-true, false≢true}
-use mathlib.Core.List.{List, [], _∷_, List·Memᴰ}
-use mathlib.Core.Logic.{_↔_, Iff·trans, ⊎-elim}
-use Prim.Native.Nat.{ℕ, _*_, _≤_}
+use mathlib.Core.List.{List, [], _∷_, map, List·Memᴰ}
+use mathlib.Core.Logic.{_↔_, Iff·trans, _⊎_, inl, inr, ⊎-elim}
+use Prim.Native.Nat.{ℕ, suc, _*_, _≤_, _<_}
 use native.Mathlib.Omega.{arith}
 use borrow.Author.Tests.{eqb-true, eqb-false, eq-eqb, ltb-true, lt-ltb, not-true}
 use lib.Dec.{eqb, leb}
-use Rattle.laws.specs.Lists.{any, keep}
+use Rattle.laws.specs.Lists.{any, keep, gather}
 use Rattle.meaning.specs.Events.{Event, constraintOf}
 use Rattle.meaning.specs.Book as Plain
 use Rattle.meaning.specs.Book.{soundBook, positions, endsAt, symbolOf}
-use Rattle.meaning.specs.Labels.{Disjunct, Held, isFree, meets, met, sources, stepSet}
+use Rattle.meaning.specs.Labels.{Entry, Disjunct, Held, isFree, exclusions, meets, met, labelOf, sources, stepSet, skipThrough, newHeld}
+use Rattle.meaning.specs.Room.{Broken, stepSetOver, skipSetOver, seventhExclusion, allOver}
 use Rattle.meaning.specs.Rows.{rows, leavesFree}
 use Rattle.meaning.specs.Sound.{soundHeld, soundState, eventLimit}
 use Rattle.automaton.proofs.Bound.{closed}
@@ -25,23 +26,24 @@ use Rattle.record.specs.Records.{isRecord, eventIn}
 use Rattle.book.specs.Books.{viewBook}
 use Rattle.book.specs.declared.Book.{Book}
 use Rattle.state.specs.declared.State.{State}
-use lib.ListN.{replicate}
-use Rattle.laws.specs.Parts.{pad}
+use lib.ListN.{length, take, replicate}
+use Rattle.laws.specs.Parts.{splice, pad}
 use Rattle.slot.specs.Slots.{slotOf}
 use Rattle.disjunct.specs.Disjuncts.{disjunctOf}
 use Rattle.state.specs.States.{stateOf, heldFirst, viewState}
 use Rattle.sound.specs.Soundness.{bookCounts, bookSound, stateCounts, stateSound}
 use Rattle.tally.specs.declared.Tally.{Tally}
 use Rattle.tally.specs.Tallies.{tallied}
+use Rattle.row.specs.RowBytes.{rowBytes}
 use Rattle.calls.specs.Answers.{Check, numberOf, firstOf}
 use Rattle.calls.specs.Calls as Calls
-use Rattle.calls.specs.Calls.{freshState, isAccepted, rowsBy, leavesFreeBy, roomBy, answerTo, taken, bufferAfter}
+use Rattle.calls.specs.Calls.{freshState, isAccepted, rowsBy, stateBy, leavesFreeBy, roomBy, answerTo, taken, bufferAfter}
 use Rattle.calls.specs.Checks.{Unsound, unsoundBook, unsoundState, leftFree, OutOfForm, TooMany, NoRoom, NoSpace, FirstFailing}
 use Rattle.calls.specs.Runs.{Lent}
 use Rattle.calls.specs.declared.EventAnswer.{EventAnswer}
 use Rattle.calls.specs.declared.EventAnswer.the-variants as Answer
 use Rattle.calls.specs.declared.Taken.{Taken}
-use Rattle.demands.proofs.Course.{taken-answer, taken-refused}
+use Rattle.demands.proofs.Course.{taken-answer, taken-refused, taken-accepted}
 
 -- Lists of checks, and the number of the first that fails.
 module _ (x : ℕ) where
@@ -241,3 +243,97 @@ few-taken b s bytes buffer place t =
     yes : (a : Bool) → (a ≡ false → ⊥) → a ≡ true
     yes true h = refl
     yes false h = absurd (h refl)
+
+-- 9 in its own words: with an unsound book or state, whatever the record, the event number, the room and the buffer; with a row that would leave a
+-- variable free, at any position that ends a word, whatever the event number, the room and the buffer; and in no other case
+pub nine-rules : (b : Book) (s : State) (bytes buffer : Bytes) (place : ℕ) (t : Tally)
+    → let v = viewBook b in
+    (numberOf (taken b s bytes buffer place t .answer) ≡ 9)
+    ↔ (((bookSound b && stateSound b s) ≡ false)
+    ⊎ ((isRecord bytes ≡ true) × ((q : ℕ) × List·Memᴰ q (positions v) × (endsAt v q ≡ true)
+    × ((D : Disjunct) × List·Memᴰ D (stepSet v (heldFirst (b .variables) s) (eventIn bytes) q) × (any isFree D ≡ true)))))
+nine-rules b s bytes buffer place t =
+    let f = first-failing b s bytes buffer place t .nine in (λ h. to (f .0 h), λ h. f .1 (back h))
+  where
+    to : Unsound b s bytes → ((bookSound b && stateSound b s) ≡ false)
+        ⊎ ((isRecord bytes ≡ true) × ((q : ℕ) × List·Memᴰ q (positions (viewBook b)) × (endsAt (viewBook b) q ≡ true)
+        × ((D : Disjunct) × List·Memᴰ D (stepSet (viewBook b) (heldFirst (b .variables) s) (eventIn bytes) q) × (any isFree D ≡ true))))
+    to (unsoundBook h) = inl (rw h)
+    to (unsoundState h) = inl (rw (h, and-false))
+    to (leftFree f q m j D n y) = inr (f, (q, m, j, (D, n, y)))
+
+    back : ((bookSound b && stateSound b s) ≡ false)
+        ⊎ ((isRecord bytes ≡ true) × ((q : ℕ) × List·Memᴰ q (positions (viewBook b)) × (endsAt (viewBook b) q ≡ true)
+        × ((D : Disjunct) × List·Memᴰ D (stepSet (viewBook b) (heldFirst (b .variables) s) (eventIn bytes) q) × (any isFree D ≡ true))))
+        → Unsound b s bytes
+    back (inl h) = ⊎-elim unsoundBook unsoundState (and-false-split (bookSound b) (stateSound b s) h)
+    back (inr (f, (q, m, j, (D, n, y)))) = leftFree f q m j D n y
+
+-- the four rules written out, for the proof below; its statement has them in its own words
+module _ (b : Plain.Book) (held : List Held) (e : Event) where
+  abbrev through : (p k : ℕ) → List Disjunct
+  through p k = skipThrough (take k (map (λ y. constraintOf y e) (b .symbols))) (labelOf held p)
+
+  abbrev FourRules : Type 0
+  FourRules =
+      ((q : ℕ) × List·Memᴰ q (positions b) × (128 < length (stepSet b held e q)))
+      ⊎ (((p : ℕ) × (k : ℕ) × List·Memᴰ p (positions b) × (1 ≤ k) × (k ≤ length (b .symbols)) × (128 < length (through p k)))
+      ⊎ (((p : ℕ) × (k : ℕ) × List·Memᴰ p (positions b) × (1 ≤ k) × (k ≤ length (b .symbols))
+      × ((D : Disjunct) × List·Memᴰ D (through p k) × ((x : Entry) × List·Memᴰ x D × (6 < length (exclusions x)))))
+      ⊎ (128 < length (newHeld b held e))))
+
+  ruled : Broken b held e → FourRules
+  ruled (stepSetOver q m h) = inl (q, m, h)
+  ruled (skipSetOver p k m i j h) = inr (inl (p, k, m, i, j, h))
+  ruled (seventhExclusion p k m i j D n x o h) = inr (inr (inl (p, k, m, i, j, (D, n, (x, o, h)))))
+  ruled (allOver h) = inr (inr (inr h))
+
+  broken : FourRules → Broken b held e
+  broken (inl (q, m, h)) = stepSetOver q m h
+  broken (inr (inl (p, k, m, i, j, h))) = skipSetOver p k m i j h
+  broken (inr (inr (inl (p, k, m, i, j, (D, n, (x, o, h)))))) = seventhExclusion p k m i j D n x o h
+  broken (inr (inr (inr h))) = allOver h
+
+-- "No room, exactly: some step set, or some skip set after one of its symbols, exceeds 128; a variable would have 7 exclusions; or all new labels
+-- together exceed 128.": at any position, and nothing else
+pub twelve-rules : (b : Book) (s : State) (bytes buffer : Bytes) (place : ℕ) (t : Tally)
+    → let v = viewBook b in
+    let held = heldFirst (b .variables) s in
+    let e = eventIn bytes in
+    let after : (p k : ℕ) → List Disjunct = λ p k. skipThrough (take k (map (λ y. constraintOf y e) (v .symbols))) (labelOf held p) in
+    (numberOf (taken b s bytes buffer place t .answer) ≡ 12)
+    ↔ ((Unsound b s bytes → ⊥) × (OutOfForm b s bytes → ⊥) × (TooMany b s bytes → ⊥)
+    × (((q : ℕ) × List·Memᴰ q (positions v) × (128 < length (stepSet v held e q)))
+    ⊎ (((p : ℕ) × (k : ℕ) × List·Memᴰ p (positions v) × (1 ≤ k) × (k ≤ length (v .symbols)) × (128 < length (after p k)))
+    ⊎ (((p : ℕ) × (k : ℕ) × List·Memᴰ p (positions v) × (1 ≤ k) × (k ≤ length (v .symbols))
+    × ((D : Disjunct) × List·Memᴰ D (after p k) × ((x : Entry) × List·Memᴰ x D × (6 < length (exclusions x)))))
+    ⊎ (128 < length (newHeld v held e))))))
+twelve-rules b s bytes buffer place t =
+    let v = viewBook b in
+    let held = heldFirst (b .variables) s in
+    let f = first-failing b s bytes buffer place t .twelve in (
+      λ h. let (a, c, d, r) = f .0 h in (a, c, d, ruled v held (eventIn bytes) r),
+      λ (a, c, d, r). f .1 (a, c, d, broken v held (eventIn bytes) r),
+    )
+
+-- what an accepted call hands back and leaves, for any book and state: the next state as a state is stored, what no count reaches zero or free; the
+-- rows from the place on, each with the event's number; one accepted event and these rows more
+pub accepted-leaves : (b : Book) (s : State) (bytes buffer : Bytes) (place : ℕ) (t : Tally) → numberOf (taken b s bytes buffer place t .answer) ≡ 0
+    → let held = heldFirst (b .variables) s in
+    let l = rows (viewBook b) held (eventIn bytes) in
+    (taken b s bytes buffer place t .state ≡ stateOf (record { number = suc (s .number); held = newHeld (viewBook b) held (eventIn bytes) }))
+    × (taken b s bytes buffer place t .rows ≡ length l) × (taken b s bytes buffer place t .tally ≡ tallied t 1 0 (length l))
+    × (bufferAfter b s bytes buffer place ≡ splice place (gather (rowBytes (suc (s .number)) (b .variables)) l) buffer)
+unfolding stateBy rowsBy viewState
+accepted-leaves b s bytes buffer place t h =
+    let l : Lent = record { bytes = bytes; buffer = buffer; place = place; tally = t } in
+    let (n, z, r, c) = taken-accepted b s l (was (answerTo b s bytes buffer place) (sym (ap numberOf (taken-answer b s l)) ∙ h)) in
+    (z, n, c, r)
+  where
+    was : (a : EventAnswer) → numberOf a ≡ 0 → isAccepted a ≡ true
+    was Answer.Accepted e = refl
+    was Answer.Unsound e = absurd (omega (arith, e))
+    was Answer.OutOfForm e = absurd (omega (arith, e))
+    was Answer.TooMany e = absurd (omega (arith, e))
+    was Answer.NoRoom e = absurd (omega (arith, e))
+    was Answer.NoSpace e = absurd (omega (arith, e))

@@ -250,15 +250,6 @@ EachJudged =
     ∷ having-two ((value 5 ∷ slotted false 0 7 (1 ∷ 2 ∷ 3 ∷ 4 ∷ 5 ∷ 6 ∷ []) ∷ []) ∷ []) ∷ [])
     ≡ (13 ∷ 9 ∷ 9 ∷ []) ++ (13 ∷ 9 ∷ 9 ∷ 9 ∷ 9 ∷ [])
 
-pub refusals : NineFirst × CountedOnly × StructBooks × StructStates × EachJudged
-unfolding bit join meet single pad matches constraintOf soundBook soundSymbol compareDisjuncts skipBy sources stepSet skipSet newLabel newHeld
-    setRoom room rows leavesFree soundPiece soundHeld soundState spacesEnd wordEnd nameEnd nextWord nameFault kindOf wantWord kindFrom symbolFrom
-    linesOf itemOf nameAtom closed alternationFrom patternFrom lastLine matchFrom readingOf symbolOf tableOf viewSymbol wordAt argumentsIn isRecord
-    eventIn viewSlot slotOf viewDisjunct disjunctOf readingFor bookFor viewBook stateOf heldFirst viewState symbolCounts bookCounts bookSound
-    slotCounts stateCounts stateSound freshState rowsBy stateBy leavesFreeBy roomBy unsound outOfForm tooMany noRoom noSpace answerTo taken make
-    bufferAfter rowBytes wordBytes splice front tallied capped
-refusals = (refl, refl, refl, refl, refl)
-
 -- "Held disjuncts stand by position, …": what is held stands in the first places of the pool, in its order; every number of the struct
 pub stored : stateOf (record { number = 3; held = heldAt 1 (free (7 ∷ 8 ∷ []) ∷ bound 6 ∷ []) ∷ heldAt 2 (bound 5 ∷ free [] ∷ []) ∷ [] })
     ≡ record {
@@ -271,3 +262,60 @@ pub stored : stateOf (record { number = 3; held = heldAt 1 (free (7 ∷ 8 ∷ []
     }
 unfolding stateOf pad disjunctOf slotOf
 stored = refl
+
+-- 9 before all else, with more than one thing wrong: an unsound book with a record out of form and with 1,000,000 events, an unsound disjunct with
+-- 1,000,000 events, one at a position that nothing follows, and a row that would leave a variable free where there is no room either
+abbrev crowded : Book
+crowded =
+    struct 1 2 placed
+    (record { kind = 1; count = 1; parameters = place 1 0 ∷ replicate 3 (place 0 0) } ∷ record { kind = 1; count = 1; parameters = replicate 4 (place 0 0) }
+    ∷ replicate 14 (record { kind = 0; count = 0; parameters = replicate 4 (place 0 0) })) 2 (1 ∷ replicate 30 0) 2 2 (4 ∷ replicate 30 0) false
+
+abbrev tired : State
+tired = record { number = 1000000; count = 1; positions = 1 ∷ replicate 127 0; pool = having (1 ∷ []) (without (9 ∷ 7 ∷ []) ∷ []) .pool }
+
+abbrev NineBefore : Type 0
+NineBefore =
+    number (declaring 5 1 1 1 0) (idle 0) [] ∷ number (declaring 5 1 1 1 0) (idle 1000000) other ∷ number one tired other ∷ number one tired []
+    ∷ number one (having (2 ∷ []) (without (9 ∷ 7 ∷ []) ∷ [])) other ∷ number one (having (2 ∷ []) (slotted true 5 1 (replicate 6 0) ∷ [])) other
+    ∷ number crowded (having (1 ∷ []) (without (1 ∷ 2 ∷ 3 ∷ 4 ∷ 5 ∷ 6 ∷ []) ∷ [])) (1 ∷ 1 ∷ 0 ∷ 0 ∷ 7 ∷ replicate 15 0) ∷ []
+    ≡ replicate 7 9
+
+-- the state that an accepted event leaves, every number of it: what no count reaches is zero or free, whatever the state that came had there, and
+-- where a disjunct has ended. The state `spareState` of `one` after another event, and B1 after load(1,7), clean(1).
+abbrev leaves : Book → State → Bytes → State
+leaves b s bytes = make b s (lending bytes 0 0) .taken .state
+
+abbrev free-slots : ℕ → List Slot
+free-slots n = replicate n (slotted false 0 0 (replicate 6 0))
+
+abbrev LeftWhole : Type 0
+LeftWhole =
+    (leaves spare spareState other
+    ≡ record {
+      number = 2;
+      count = 1;
+      positions = 1 ∷ replicate 127 0;
+      pool = record { vars = slotted false 0 2 (3 ∷ 8 ∷ replicate 4 0) ∷ free-slots 3 } ∷ replicate 127 (record { vars = free-slots 4 });
+    })
+    × (let b1 = reading (ascii "vars d s\nsym load 1 d s\nsym drop 2 d\nsym clean 3 d\nmatch load drop+\n") .book in
+    leaves b1 (leaves b1 freshState (load 1 7)) (3 ∷ 1 ∷ 0 ∷ 0 ∷ 1 ∷ replicate 15 0)
+    ≡ record { number = 2; count = 0; positions = replicate 128 0; pool = replicate 128 (record { vars = free-slots 4 }) })
+
+-- the place of each declared name is judged, "variables from 0, then symbols", and of no other: two variables, three symbols
+abbrev misplaced : (at : ℕ) → Book
+misplaced i =
+    struct 2 3 (replicate i (at 0 1) ++ (at 4096 1 ∷ replicate (19 - i) (at 0 1))) (symbols 1 1 0) 2 (replicate 31 0) 2 4 (4 ∷ replicate 30 0) false
+
+abbrev EachName : Type 0
+EachName =
+    map (λ i. number (misplaced i) (idle 0) other) (0 ∷ 1 ∷ 2 ∷ 3 ∷ 4 ∷ 5 ∷ []) ≡ replicate 5 9 ++ (13 ∷ [])
+
+pub refusals : NineFirst × CountedOnly × StructBooks × StructStates × EachJudged × NineBefore × LeftWhole × EachName
+unfolding bit join meet single pad matches constraintOf soundBook soundSymbol compareDisjuncts skipBy sources stepSet skipSet newLabel newHeld
+    setRoom room rows leavesFree soundPiece soundHeld soundState spacesEnd wordEnd nameEnd nextWord nameFault kindOf wantWord kindFrom symbolFrom
+    linesOf itemOf nameAtom closed alternationFrom patternFrom lastLine matchFrom readingOf symbolOf tableOf viewSymbol wordAt argumentsIn isRecord
+    eventIn viewSlot slotOf viewDisjunct disjunctOf readingFor bookFor viewBook stateOf heldFirst viewState symbolCounts bookCounts bookSound
+    slotCounts stateCounts stateSound freshState rowsBy stateBy leavesFreeBy roomBy unsound outOfForm tooMany noRoom noSpace answerTo taken make
+    bufferAfter rowBytes wordBytes splice front tallied capped
+refusals = (refl, refl, refl, refl, refl, refl, (refl, refl), refl)

@@ -5,21 +5,23 @@
 use mathlib.Core.Path.{_≡_, refl}
 use mathlib.Core.Bool.{Bool, true, false, _&&_, _||_, false≢true}
 use mathlib.Core.List.{List, [], _∷_, map}
-use Prim.Native.Nat.{ℕ, zero, suc, _-_, _<_}
+use Prim.Native.Nat.{ℕ, zero, suc, _-_, _<_, compare, Ordering·lt, Ordering·eq}
 use native.Mathlib.Omega.{arith}
 use borrow.Author.Tests.{eqb-true}
 use lib.ListN.{getD, replicate}
 use Rattle.laws.specs.Bits.{bit, join, meet, single}
 use Rattle.laws.specs.Lists.{all}
-use Rattle.laws.specs.Order.{ascending}
-use Rattle.pattern.specs.Regex.{lit}
+use Rattle.laws.specs.Order.{lex, ascending}
+use Rattle.laws.proofs.Order.{lt-compare}
+use Rattle.pattern.specs.Regex.{lit, cat, opt}
 use Rattle.meaning.specs.Events.{Event, ignored, names, matches, constraintOf, wellFormed, isValuation, holds, concerns}
 use Rattle.meaning.specs.Meaning.{Tracematch, noEvent, Row}
 use Rattle.meaning.specs.Book.{bookOf, isProper, soundSymbol}
-use Rattle.meaning.specs.Labels.{bound, free, compareDisjuncts, skipBy, sources, stepSet, skipSet, newLabel, newHeld}
+use Rattle.meaning.specs.Labels.{bound, free, Disjunct, valueKey, exclusions, heldAt, compareDisjuncts}
+use Rattle.meaning.specs.Labels.{skipBy, sources, stepSet, skipSet, newLabel, newHeld}
 use Rattle.meaning.specs.Room.{setRoom, room}
 use Rattle.meaning.specs.Rows.{rows}
-use Rattle.meaning.specs.Runs.{heldAfter, Pairing, Dependent, Ordered}
+use Rattle.meaning.specs.Runs.{Call, heldAfter, Pairing, Dependent, Ordered}
 use Rattle.meaning.specs.Starred.{Case, Answer, answers, table, onTheWay, partial, partialCalls, partialHeld}
 use Rattle.meaning.specs.Starred.{mixed, mixedCalls, mixedHeld, thrice, thriceCalls, thriceHeld}
 
@@ -132,3 +134,35 @@ pub counts-equal : map (λ xs. holds (record { kind = 1; parameters = names 0 �
     ≡ true ∷ true ∷ false ∷ false ∷ false ∷ []
 unfolding holds
 counts-equal = refl
+
+-- "then by values …, then by exclusion lists", for all disjuncts: the values decide, and where they are the same the exclusion lists do
+pub values-first : (D E : Disjunct) → lex compare (map valueKey D) (map valueKey E) ≡ Ordering·lt → compareDisjuncts D E ≡ Ordering·lt
+unfolding compareDisjuncts
+values-first D E h = rw h
+
+pub lists-next : (D E : Disjunct) → lex compare (map valueKey D) (map valueKey E) ≡ Ordering·eq
+    → compareDisjuncts D E ≡ lex (lex compare) (map exclusions D) (map exclusions E)
+unfolding compareDisjuncts
+lists-next D E h = rw h
+
+-- the first variable's value decides before it matters which of the further variables are free; "a free variable before any value"
+pub smaller-first : (a b : ℕ) (D E : Disjunct) → a < b → compareDisjuncts (bound a ∷ D) (bound b ∷ E) ≡ Ordering·lt
+smaller-first a b D E h = values-first (bound a ∷ D) (bound b ∷ E) (rw (lt-compare (suc a) (suc b) (omega arith)))
+
+pub free-first : (xs : List ℕ) (b : ℕ) (D E : Disjunct) → compareDisjuncts (free xs ∷ D) (bound b ∷ E) ≡ Ordering·lt
+free-first xs b D E = values-first (free xs ∷ D) (bound b ∷ E) (rw (lt-compare 0 (suc b) (omega arith)))
+
+-- what is held after a(9), b(1), b(2) of `vars d s`, a 1 s, b 2 d, c 3 d s, `match a? b c`: d = 1 before d = 2, whether s is free or not
+pub alternate-held : heldAfter
+    (record {
+      variables = 2;
+      symbols = record { kind = 1; parameters = names 1 ∷ [] } ∷ record { kind = 2; parameters = names 0 ∷ [] }
+          ∷ record { kind = 3; parameters = names 0 ∷ names 1 ∷ [] } ∷ [];
+      pattern = cat (opt (lit 0)) (cat (lit 1) (lit 2));
+    })
+    (Call.event (record { kind = 1; args = 9 ∷ [] }) true ∷ Call.event (record { kind = 2; args = 1 ∷ [] }) true
+    ∷ Call.event (record { kind = 2; args = 2 ∷ [] }) true ∷ [])
+    ≡ heldAt 1 (free (1 ∷ 2 ∷ []) ∷ bound 9 ∷ []) ∷ heldAt 2 (bound 1 ∷ free [] ∷ []) ∷ heldAt 2 (bound 1 ∷ bound 9 ∷ [])
+    ∷ heldAt 2 (bound 2 ∷ free [] ∷ []) ∷ heldAt 2 (bound 2 ∷ bound 9 ∷ []) ∷ []
+unfolding bit join single matches constraintOf bookOf compareDisjuncts skipBy sources stepSet skipSet newLabel newHeld
+alternate-held = refl
