@@ -1,19 +1,17 @@
 // The full pool, as document 01 has it under "Roasts to check against": B1, load(1,1) to load(1,128): 0; load(1,129): 12; drop(1): 128
 // rows; load(1,129): 12; clean(1), load(1,129): 0. Counts the calls that answered right, rows included.
-use crate::RECORD_BYTES;
 use crate::score::Score;
 use book::Book;
+use record::RECORD;
+use state::CAPACITY;
 use state::State;
 use tally::Tally;
+use writer::ROW;
 
-// A row, an event record, the disjuncts that a state has places for, and a buffer for as many rows.
-const ROW_BYTES: usize = writer::ROW;
-
-const CAPACITY: usize = state::CAPACITY;
-
+// The last of as many events as a state has places for disjuncts, and a buffer for as many rows.
 const LAST: u8 = 128;
 
-const ROOM: usize = CAPACITY * ROW_BYTES;
+const ROOM: usize = CAPACITY * ROW;
 
 // What was compared, and the state to go on from.
 struct Run {
@@ -22,8 +20,8 @@ struct Run {
 }
 
 // The record of an event with two arguments below 256, or with one.
-fn record(kind: u8, count: u8, x: u8, y: u8) -> [u8; RECORD_BYTES] {
-    let mut r = [0u8; RECORD_BYTES];
+fn record(kind: u8, count: u8, x: u8, y: u8) -> [u8; RECORD] {
+    let mut r = [0u8; RECORD];
     r[0] = kind;
     r[1] = count;
     r[4] = x;
@@ -34,7 +32,7 @@ fn record(kind: u8, count: u8, x: u8, y: u8) -> [u8; RECORD_BYTES] {
 // Whether row number i in the buffer is the event's number, two variables, 1 and i + 1.
 fn is_row(rows: &[u8], i: usize, number: u8) -> bool {
     if i < CAPACITY {
-        let at = i * ROW_BYTES;
+        let at = i * ROW;
         let value = (i % 256 + 1) as u8;
         if at + 12 < rows.len() {
             let a = rows[at];
@@ -64,7 +62,7 @@ fn right_rows(rows: &[u8], n: usize, number: u8) -> usize {
 }
 
 // One event: the answer, the row count and every row are compared.
-fn expect(book: Book, r: Run, bytes: [u8; RECORD_BYTES], answer: usize, count: usize) -> Run {
+fn expect(book: Book, r: Run, bytes: [u8; RECORD], answer: usize, count: usize) -> Run {
     let mut rows = [0u8; ROOM];
     let s = r.state;
     let t = crate::event(book, s, &bytes, &mut rows, 0, Tally::none());

@@ -8,6 +8,7 @@ mod score;
 use book::Book;
 use calls::Taken;
 use counted::Given;
+use record::RECORD;
 use state::State;
 use tally::Tally;
 ghost use mathlib.Core.Path.{_≡_};
@@ -18,9 +19,6 @@ ghost use Rattle.calls.specs.Calls.{taken, bufferAfter};
 const EVENTS: usize = 9;
 
 const ROOM: usize = 64;
-
-// An event record.
-pub const RECORD_BYTES: usize = 20;
 
 const LARGEST: u64 = 18446744073709551615;
 
@@ -109,8 +107,8 @@ fn byte(i: usize, k: usize) -> u8 {
     table[(i % EVENTS * 4 + k % 4) % 36]
 }
 
-fn record(i: usize) -> [u8; RECORD_BYTES] {
-    let mut r = [0u8; RECORD_BYTES];
+fn record(i: usize) -> [u8; RECORD] {
+    let mut r = [0u8; RECORD];
     r[0] = byte(i, 0);
     r[1] = byte(i, 1);
     r[4] = byte(i, 2);

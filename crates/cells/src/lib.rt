@@ -1,8 +1,9 @@
 // Random trials in lent words: entries of eight words for the book's symbols, the nodes of its pattern and the events, by number; and
-// reads and writes with the index tested: 0 where there is nothing, no change where there is no place. For `invented` and `second`.
+// reads and writes with the index tested: 0 where there is nothing, no change where there is no such index. For `invented` and `second`.
+use record::RECORD;
 
-// An entry. Entry 0: the count of variables at COUNT, places 1 to 4, the largest value, how many valuations there are. A symbol or an
-// event: its kind, its count, its places (0 ignored, v + 1 variable v) or arguments; of an event also the answer to its record (0
+// An entry. Entry 0: the count of variables at COUNT, parameters 1 to 4, the largest value, how many valuations there are. A symbol or an
+// event: its kind, its count, its parameters (0 ignored, v + 1 variable v) or arguments; of an event also the answer to its record (0
 // accepted, MARKED more where a byte of it is to be left out from then on), and the place of its rows, with SHORT more where the record
 // lacks a byte.
 pub const ENTRY_WORDS: usize = 8;
@@ -13,7 +14,7 @@ pub const KIND: usize = 0;
 
 pub const COUNT: usize = 1;
 
-pub const PLACE: usize = 2;
+pub const PARAMETER: usize = 2;
 
 pub const ANSWER: usize = 6;
 
@@ -85,14 +86,10 @@ pub const ROW_COUNT: usize = SCORE + WRONG + 1;
 
 pub const WORDS: usize = ROW_COUNT + 1;
 
-// Document 01's sizes in bytes: the longest text, a record, a row. The bytes of a trial: a record to each entry, then the text.
+// The longest text. The bytes of a trial: a record to each entry, then the text.
 pub const TEXT_BYTES: usize = 4096;
 
-pub const RECORD_BYTES: usize = 20;
-
-pub const ROW_BYTES: usize = 24;
-
-pub const TEXT: usize = ENTRIES * RECORD_BYTES;
+pub const TEXT: usize = ENTRIES * RECORD;
 
 pub const BYTES: usize = TEXT + TEXT_BYTES;
 
@@ -141,11 +138,7 @@ pub fn record<'a>(trial: &[u32], bytes: &'a [u8], i: usize) -> &'a [u8] {
     let e = event(trial, i);
     let short = at(trial, e, ROWS) as usize / SHORT % 2;
     let marked = (at(trial, e, ANSWER) / MARKED % 2) as usize;
-    part(
-        bytes,
-        e % ENTRIES * RECORD_BYTES,
-        RECORD_BYTES - short - marked,
-    )
+    part(bytes, e % ENTRIES * RECORD, RECORD - short - marked)
 }
 
 pub fn place(trial: &[u32], i: usize) -> usize {

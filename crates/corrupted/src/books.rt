@@ -1,16 +1,16 @@
-// Damage to the book of `main`: three symbols (the first with one place, the others with two), two variables, two positions.
+// Damage to the book of `main`: three symbols (the first with one parameter, the others with two), two variables, two positions.
 // Kind 0 leaves it, 1 to 14 and 16 take it out of what is sound, 15 lets a word end at position 1, where `s` is free.
 use crate::amounts;
-use crate::sizes::ARGUMENTS;
-use crate::sizes::NAMES;
-use crate::sizes::POSITIONS;
-use crate::sizes::SYMBOLS;
 use crate::sizes::TEXT_BYTES;
-use crate::sizes::VARIABLES;
 use book::Book;
+use piece::POSITIONS;
+use table::NAMES;
 use table::Name;
+use table::PARAMETERS;
 use table::Parameter;
+use table::SYMBOLS;
 use table::Symbol;
+use table::VARIABLES;
 
 // The kind of damage to a name.
 const MISNAMED: u32 = 16;
@@ -147,7 +147,7 @@ fn symbol(s: Symbol, kind: u32, x: u64, y: u64) -> Symbol {
         return r;
     }
     if kind == 12 {
-        r.count = amounts::above(ARGUMENTS + 1, x);
+        r.count = amounts::above(PARAMETERS + 1, x);
         return r;
     }
     if s.count == 2 && y % 2 == 1 {
@@ -192,7 +192,7 @@ fn names(a: [Name; NAMES], other: Name) -> [Name; NAMES] {
     r
 }
 
-// What no count reaches filled with x: names, symbols, their places, positions.
+// What no count reaches filled with x: names, symbols, their parameters, positions.
 pub fn spare(b: Book, x: u64) -> Book {
     let short = amounts::short(x);
     let p = Parameter {
@@ -230,20 +230,20 @@ fn symbols(a: [Symbol; SYMBOLS], p: Parameter, x: u64) -> [Symbol; SYMBOLS] {
     let other = Symbol {
         kind: amounts::short(x),
         count: x as usize,
-        parameters: [p; ARGUMENTS],
+        parameters: [p; PARAMETERS],
     };
     let first = a[0];
     let second = a[1];
     let third = a[2];
     let mut r = [other; SYMBOLS];
-    r[0] = places(first, p);
-    r[1] = places(second, p);
-    r[2] = places(third, p);
+    r[0] = padded(first, p);
+    r[1] = padded(second, p);
+    r[2] = padded(third, p);
     r
 }
 
-// The places of a symbol beyond its one or two.
-fn places(s: Symbol, p: Parameter) -> Symbol {
+// A symbol with its parameters beyond its one or two filled.
+fn padded(s: Symbol, p: Parameter) -> Symbol {
     let mut r = s;
     r.parameters[2] = p;
     r.parameters[3] = p;

@@ -1,6 +1,6 @@
 // The bytes of an event record, and damage to them: kind 0 leaves them, 1 to 8 put them out of form.
-use crate::sizes::RECORD_BYTES;
 use crate::sizes::RECORD_ROOM;
+use record::RECORD;
 
 // Of the 21 bytes the first `length` are lent.
 pub struct Lent {
@@ -35,7 +35,7 @@ pub fn written(kind: u8, count: u8, a: u32, b: u32) -> Lent {
     ];
     Lent {
         bytes: bytes,
-        length: RECORD_BYTES,
+        length: RECORD,
     }
 }
 
@@ -58,14 +58,14 @@ pub fn damaged(l: Lent, kind: u32, x: u64, y: u64) -> Lent {
     let changed = misformed(bytes, kind, x, y);
     Lent {
         bytes: changed,
-        length: RECORD_BYTES,
+        length: RECORD,
     }
 }
 
 fn length_of(kind: u32, y: u64) -> usize {
     match kind {
-        0 => RECORD_BYTES,
-        1 => RECORD_BYTES - 1,
+        0 => RECORD,
+        1 => RECORD - 1,
         2 => RECORD_ROOM,
         _ => (y % 20) as usize,
     }

@@ -6,13 +6,13 @@ use corrupted::records;
 use corrupted::records::Lent;
 use corrupted::sizes::BUFFER;
 use corrupted::sizes::RECORD_ROOM;
-use corrupted::sizes::ROW_BYTES;
 use corrupted::states;
 use expected::leaving;
 use expected::leaving::Left;
 use expected::lending;
 use expected::lending::Space;
 use expected::moves;
+use row::ROW;
 use state::State;
 use tally::Tally;
 use watch::Taken;
@@ -119,9 +119,9 @@ fn one(seed: u64, read: Book, score: Score) -> Score {
 // An event taken in the ordinary way.
 fn after(book: Book, state: State, kind: u8, count: u8, a: u32, b: u32) -> State {
     let l = records::written(kind, count, a, b);
-    let mut rows = [0u8; ROW_BYTES];
+    let mut rows = [0u8; ROW];
     let t = Tally::none();
-    let s = lending::spaced(ROW_BYTES, 0);
+    let s = lending::spaced(ROW, 0);
     let r = call(book, state, l, &mut rows, s, t);
     r.state
 }

@@ -108,7 +108,7 @@ NineFirst =
     ∷ number two (stateOf (record { number = 1000000; held = heldAt 1 (bound 1 ∷ free (1 ∷ 2 ∷ 3 ∷ 4 ∷ 5 ∷ 6 ∷ []) ∷ []) ∷ [] })) (load 1 7) ∷ []))
     ≡ (13 ∷ 9 ∷ 9 ∷ 13 ∷ 9 ∷ []) ++ ((13 ∷ 9 ∷ 13 ∷ 9 ∷ []) ++ (9 ∷ 9 ∷ 10 ∷ 9 ∷ 10 ∷ 11 ∷ []))
 
--- What no count reaches is not judged: names, symbols and positions beyond the book's, a symbol's places beyond its own, places of the pool that
+-- What no count reaches is not judged: names, symbols and positions beyond the book's, a symbol's parameters beyond its own, places of the pool that
 -- are not taken, variables beyond the book's, exclusions that are not counted, the value of a free variable. A count beyond its array is 9: 17
 -- symbols, 32 positions, 129 disjuncts.
 abbrev wild : ℕ → List Parameter
@@ -157,23 +157,23 @@ abbrev struct : (variables symbols : ℕ) → List Name → List Symbol → (pos
 struct v y ns ys p os b e fs x =
     record { variables = v; symbols = y; names = ns; table = ys; positions = p; occurrences = os; begins = b; ends = e; follows = fs; empty = x }
 
-abbrev placed : List Name
-placed = replicate 20 (at 0 1)
+abbrev inside : List Name
+inside = replicate 20 (at 0 1)
 
-abbrev place : (tag number : ℕ) → Parameter
-place t n = record { tag = t; number = n }
+abbrev parameter : (tag number : ℕ) → Parameter
+parameter t n = record { tag = t; number = n }
 
 abbrev symbols : (kind tag number : ℕ) → List Symbol
-symbols k t n = replicate 16 (record { kind = k; count = 1; parameters = place t n ∷ replicate 3 (place 0 0) })
+symbols k t n = replicate 16 (record { kind = k; count = 1; parameters = parameter t n ∷ replicate 3 (parameter 0 0) })
 
 -- `vars d`, `sym a 1 d`, `match a a` with another pattern
 abbrev patterned : (positions : ℕ) → List ℕ → (begins ends : ℕ) → List ℕ → Bool → Book
-patterned p os b e fs x = struct 1 1 placed (symbols 1 1 0) p (os ++ replicate 29 0) b e (fs ++ replicate 29 0) x
+patterned p os b e fs x = struct 1 1 inside (symbols 1 1 0) p (os ++ replicate 29 0) b e (fs ++ replicate 29 0) x
 
 abbrev declaring : (variables symbols kind tag number : ℕ) → Book
-declaring v y k t n = struct v y placed (symbols k t n) 2 (replicate 31 0) 2 4 (4 ∷ replicate 30 0) false
+declaring v y k t n = struct v y inside (symbols k t n) 2 (replicate 31 0) 2 4 (4 ∷ replicate 30 0) false
 
--- a name as long as a text, and any number beside an ignored place
+-- a name as long as a text, and any number beside an ignored parameter
 abbrev longNamed : Book
 longNamed = struct 1 1 (at 0 13 ∷ at 0 4096 ∷ replicate 18 (at 0 0)) (symbols 1 0 77) 2 (replicate 31 0) 2 4 (4 ∷ replicate 30 0) false
 
@@ -227,9 +227,9 @@ no-place a = refl
 -- each symbol, each variable and each disjunct is judged, not one for all
 abbrev tags : List ℕ → Book
 tags ts =
-    struct 1 2 placed
-    (map (λ t. record { kind = 1; count = 1; parameters = place t 0 ∷ replicate 3 (place 0 0) }) ts
-    ++ replicate 14 (record { kind = 1; count = 0; parameters = replicate 4 (place 0 0) })) 2 (replicate 31 0) 2 4 (4 ∷ replicate 30 0) false
+    struct 1 2 inside
+    (map (λ t. record { kind = 1; count = 1; parameters = parameter t 0 ∷ replicate 3 (parameter 0 0) }) ts
+    ++ replicate 14 (record { kind = 1; count = 0; parameters = replicate 4 (parameter 0 0) })) 2 (replicate 31 0) 2 4 (4 ∷ replicate 30 0) false
 
 abbrev having-two : List (List Slot) → State
 having-two xs =
@@ -267,9 +267,9 @@ stored = refl
 -- 1,000,000 events, one at a position that nothing follows, and a row that would leave a variable free where there is no room either
 abbrev crowded : Book
 crowded =
-    struct 1 2 placed
-    (record { kind = 1; count = 1; parameters = place 1 0 ∷ replicate 3 (place 0 0) } ∷ record { kind = 1; count = 1; parameters = replicate 4 (place 0 0) }
-    ∷ replicate 14 (record { kind = 0; count = 0; parameters = replicate 4 (place 0 0) })) 2 (1 ∷ replicate 30 0) 2 2 (4 ∷ replicate 30 0) false
+    struct 1 2 inside
+    (record { kind = 1; count = 1; parameters = parameter 1 0 ∷ replicate 3 (parameter 0 0) } ∷ record { kind = 1; count = 1; parameters = replicate 4 (parameter 0 0) }
+    ∷ replicate 14 (record { kind = 0; count = 0; parameters = replicate 4 (parameter 0 0) })) 2 (1 ∷ replicate 30 0) 2 2 (4 ∷ replicate 30 0) false
 
 abbrev tired : State
 tired = record { number = 1000000; count = 1; positions = 1 ∷ replicate 127 0; pool = having (1 ∷ []) (without (9 ∷ 7 ∷ []) ∷ []) .pool }

@@ -7,8 +7,8 @@ use corrupted::amounts;
 use corrupted::records;
 use corrupted::sizes::BUFFER;
 use corrupted::sizes::MOST_EVENTS;
-use corrupted::sizes::ROW_BYTES;
 use corrupted::states;
+use row::ROW;
 use state::State;
 use tally::Tally;
 
@@ -28,7 +28,7 @@ fn rows_of(k: Kinds, m: Move) -> usize {
 // Whether there is space from the place on for the row, if there is one; the place itself must not be beyond the end.
 fn fits(s: Space, rows: usize) -> bool {
     if s.place <= s.size {
-        return rows == 0 || ROW_BYTES <= s.size - s.place;
+        return rows == 0 || ROW <= s.size - s.place;
     }
     false
 }
@@ -106,7 +106,7 @@ pub fn told(k: Kinds, m: Move, s: Space, state: State, t: Tally) -> Left {
 }
 
 // The bytes of the row of an event: its number, two variables, their values.
-fn row(number: u32, a: u32, b: u32) -> [u8; ROW_BYTES] {
+fn row(number: u32, a: u32, b: u32) -> [u8; ROW] {
     [
         records::part(number, 1),
         records::part(number, 256),
@@ -142,9 +142,9 @@ fn put_byte(out: &mut [u8], at: usize, b: u8) {
 }
 
 // The row at its place.
-fn put_row(bytes: [u8; ROW_BYTES], out: &mut [u8], place: usize) {
+fn put_row(bytes: [u8; ROW], out: &mut [u8], place: usize) {
     let mut i: usize = 0;
-    while i < ROW_BYTES {
+    while i < ROW {
         put_byte(out, place % 1000 + i, bytes[i]);
         i += 1;
     }

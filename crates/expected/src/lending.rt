@@ -7,8 +7,8 @@ use corrupted::books;
 use corrupted::records;
 use corrupted::records::Lent;
 use corrupted::sizes::BUFFER;
-use corrupted::sizes::ROW_BYTES;
 use corrupted::states;
+use row::ROW;
 use state::State;
 use tally::Tally;
 
@@ -51,7 +51,7 @@ pub fn drawn_space(seed: u64) -> Space {
     let near = draws::below(seed, 43, 2) as usize;
     match draws::below(seed, 40, 16) {
         0..=2 => spaced(size, place),
-        3..=4 => spaced(ROW_BYTES + size % 40, size % 40 + near % 2),
+        3..=4 => spaced(ROW + size % 40, size % 40 + near % 2),
         5 => spaced(size, size % 64 + near % 2),
         6 => spaced(size, amounts::amount(seed, 44) as usize),
         _ => spaced(BUFFER, place % 41),

@@ -4,7 +4,7 @@ use crate::books;
 use crate::draw;
 use cells::BUFFER_BYTES;
 use cells::ENTRY_WORDS;
-use cells::RECORD_BYTES;
+use record::RECORD;
 
 // One trace in so many is narrow; one record in so many is a byte short; one place in so many is near the end, and one beyond it, and
 // the others are below a bound; one byte in so many is odd.
@@ -48,7 +48,7 @@ const WORD_BYTES: usize = 4;
 const ODD: usize = 5;
 
 // Where the records of the events end.
-const RECORDS: usize = (cells::EVENTS + cells::EVENT_LIMIT) * RECORD_BYTES;
+const RECORDS: usize = (cells::EVENTS + cells::EVENT_LIMIT) * RECORD;
 
 // In a narrow trace every first argument is 0, and most events have two.
 pub fn word(book: u64, trace: u64, w: usize) -> u32 {
@@ -63,7 +63,7 @@ pub fn word(book: u64, trace: u64, w: usize) -> u32 {
     if draw(book, NARROW, NARROW_IN) != 0 {
         return crate::shape(trace, w, limit, count);
     }
-    if w % ENTRY_WORDS == cells::PLACE {
+    if w % ENTRY_WORDS == cells::PARAMETER {
         return 0;
     }
     crate::shape(trace, w, limit, 1 + (count % 4 + 3) / 4)
@@ -92,7 +92,7 @@ fn far(some: u32, near: u32) -> u32 {
 }
 
 pub fn records(trace: u64, trial: &[u32], bytes: &mut [u8]) {
-    let mut w: usize = cells::EVENTS * RECORD_BYTES;
+    let mut w: usize = cells::EVENTS * RECORD;
     while w < RECORDS {
         cells::put_byte(bytes, w, byte(trace, trial, w));
         w += 1;
@@ -101,12 +101,12 @@ pub fn records(trace: u64, trial: &[u32], bytes: &mut [u8]) {
 
 // A byte for the kind and for the count, four for each argument, the lowest first; one in forty of those that may not be so is odd.
 fn byte(trace: u64, trial: &[u32], w: usize) -> u32 {
-    let e = w / RECORD_BYTES;
-    let j = w % RECORD_BYTES;
-    if (j + 1) % RECORD_BYTES <= WORD_BYTES && draw(trace, SPOILED + w % 10000, ODD_IN) == 0 {
-        return ((j + RECORD_BYTES - 1) / RECORD_BYTES * ODD) as u32;
+    let e = w / RECORD;
+    let j = w % RECORD;
+    if (j + 1) % RECORD <= WORD_BYTES && draw(trace, SPOILED + w % 10000, ODD_IN) == 0 {
+        return ((j + RECORD - 1) / RECORD * ODD) as u32;
     }
-    if j < cells::PLACE {
+    if j < cells::PARAMETER {
         return cells::at(trial, e, j);
     }
     if j % WORD_BYTES == 0 {

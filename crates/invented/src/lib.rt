@@ -71,7 +71,7 @@ fn shape(seed: u64, w: usize, limit: u32, count: u32) -> u32 {
     if i == cells::COUNT {
         return count;
     }
-    if i < cells::PLACE + count as usize {
+    if i < cells::PARAMETER + count as usize {
         return draw(seed, w, limit);
     }
     0

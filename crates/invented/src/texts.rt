@@ -2,10 +2,10 @@
 // out, and the reader then refuses the text.
 use cells::ENTRIES;
 use cells::NODES;
-use cells::PLACE;
+use cells::PARAMETER;
 
 // The lines before the pattern, an entry to each, 16 bytes wide, and then the word before the pattern, are a template: `.` is no byte, `#`
-// stands for the kind, `-` for the space before a place if there is one, `_` for the place.
+// stands for the kind, `-` for the space before a parameter if there is one, `_` for the parameter.
 const LINE: usize = 16;
 
 const MATCH: usize = 6;
@@ -62,13 +62,13 @@ fn byte(trial: &[u32], entry: usize, column: usize, b: u32) -> u32 {
         return b'0' as u32 + kind % 10;
     }
     if b == b'-' as u32 || b == b'_' as u32 {
-        return place(trial, entry, (column % LINE + LINE - HEAD) / 2 % 8, b);
+        return parameter(trial, entry, (column % LINE + LINE - HEAD) / 2 % 8, b);
     }
     if b == b'.' as u32 { 0 } else { b }
 }
 
-fn place(trial: &[u32], entry: usize, i: usize, b: u32) -> u32 {
-    let p = cells::at(trial, entry, PLACE + i % cells::VARIABLE_LIMIT);
+fn parameter(trial: &[u32], entry: usize, i: usize, b: u32) -> u32 {
+    let p = cells::at(trial, entry, PARAMETER + i % cells::VARIABLE_LIMIT);
     if cells::at(trial, entry, cells::COUNT) as usize <= i {
         return 0;
     }

@@ -2,14 +2,12 @@
 // A refused text is printed as `book`, number, place. Otherwise the events are taken, 20 bytes to each, and printed is for each its
 // number, the answer and the row count, then its rows.
 use book::Book;
+use record::RECORD;
+use row::ROW;
 use tally::Tally;
 ghost use Prim.Native.Nat.{_<_, _≤_};
 
-// A row and an event record, how much of the output is gathered before it is written, and the longest number.
-const ROW_BYTES: usize = row::ROW;
-
-const RECORD_BYTES: usize = 20;
-
+// How much of the output is gathered before it is written, and the longest number.
 const GATHERED: usize = 65000;
 
 const DIGITS: usize = 20;
@@ -109,12 +107,12 @@ fn put_row(out: &mut [u8], at: usize, row: &[u8], variables: usize) -> usize {
 
 // The rows of a record, 24 bytes to each.
 fn put_rows(out: &mut [u8], at: usize, rows: &[u8], count: usize, variables: usize) -> usize {
-    let n = least(count, rows.len() / ROW_BYTES);
+    let n = least(count, rows.len() / ROW);
     let mut k = at;
     let mut i: usize = 0;
     while i < n {
-        let p = i * ROW_BYTES;
-        k = put_row(out, k, &rows[p..p + ROW_BYTES], variables);
+        let p = i * ROW;
+        k = put_row(out, k, &rows[p..p + ROW], variables);
         i += 1;
     }
     k
@@ -134,7 +132,7 @@ fn put_line(out: &mut [u8], at: usize, number: u64, answer: usize, count: usize)
 // All records of an open file, a last short one too: for each its line and its rows. A proved loop has to end, and nothing says that the
 // file does, so it also ends at the largest 64-bit number of a record, which no file reaches.
 fn list(book: Book, events: i32) {
-    let mut bytes_space = [0u8; RECORD_BYTES];
+    let mut bytes_space = [0u8; RECORD];
     let mut rows_space = io::large_buffer();
     let mut out_space = io::large_buffer();
     let bytes: &mut [u8] = &mut bytes_space;

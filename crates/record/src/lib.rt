@@ -7,7 +7,7 @@ ghost use Rattle.laws.specs.Lists.{all};
 ghost use Rattle.record.specs.Records.{recordSize, wordAt, noneDecoded, decoded};
 
 // "Event record, 20 bytes", "four unsigned 32-bit little-endian arguments"
-const RECORD: usize = 20;
+pub const RECORD: usize = 20;
 
 pub const ARGUMENTS: usize = 4;
 

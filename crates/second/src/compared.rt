@@ -4,8 +4,8 @@ use crate::concern;
 use cells::ANSWER;
 use cells::EVENT_LIMIT;
 use cells::ORDER;
-use cells::ROW_BYTES;
 use cells::WRONG;
+use row::ROW;
 
 // Bytes of a word, and a bound that no count comes near: it is there so that sums need no proof.
 const WORD_BYTES: usize = 4;
@@ -47,7 +47,7 @@ pub fn note(trial: &mut [u32], i: usize, answer: usize, count: usize, rows: &[u8
 // than the second matcher has, once it has been asked.
 fn judged(trial: &[u32], i: usize, answer: usize, count: usize, rows: &[u8]) -> usize {
     let e = cells::event(trial, i);
-    let part = cells::part(rows, cells::place(trial, i), count % ROW_LIMIT * ROW_BYTES);
+    let part = cells::part(rows, cells::place(trial, i), count % ROW_LIMIT * ROW);
     if cells::get(trial, cells::LISTED) == cells::UNKNOWN {
         return answer;
     }
@@ -77,8 +77,8 @@ fn listed(trial: &[u32], e: usize, number: u32, rows: &[u8]) -> bool {
     let mut code: u32 = 0;
     while code < codes {
         let flag = flagged(trial, e, code) % 2;
-        x = x & (1 - flag | is_row(trial, code, number, cells::part(rows, from, ROW_BYTES)));
-        from += flag as usize * ROW_BYTES;
+        x = x & (1 - flag | is_row(trial, code, number, cells::part(rows, from, ROW)));
+        from += flag as usize * ROW;
         code += 1;
     }
     x == 1 && from == rows.len()
@@ -94,7 +94,7 @@ fn flagged(trial: &[u32], e: usize, code: u32) -> u32 {
 fn is_row(trial: &[u32], code: u32, number: u32, row: &[u8]) -> u32 {
     let mut x: u32 = 1;
     let mut j: usize = 0;
-    while j < ROW_BYTES {
+    while j < ROW {
         x = x & concern::same(byte(row, j), row_byte(trial, code, number, j));
         j += 1;
     }

@@ -1,7 +1,7 @@
 // Which symbols hold on an event under a valuation: which events concern it. For the second matcher.
 use cells::ANSWER;
 use cells::CODES;
-use cells::PLACE;
+use cells::PARAMETER;
 
 // A bound for numbers that are small, so that sums need no proof.
 const BOUND: u32 = 65536;
@@ -36,7 +36,7 @@ fn holding(trial: &[u32], code: u32, e: usize) -> u32 {
     m
 }
 
-// 1 where kind and count of event e are those of symbol s, and each argument is what the place asks.
+// 1 where kind and count of event e are those of symbol s, and each argument is what the parameter asks.
 fn holds(trial: &[u32], code: u32, s: usize, e: usize) -> u32 {
     let mut x: u32 = 1;
     let mut i: usize = 0;
@@ -55,7 +55,7 @@ fn holds(trial: &[u32], code: u32, s: usize, e: usize) -> u32 {
 }
 
 fn agrees(trial: &[u32], code: u32, i: usize, asked: u32, word: u32) -> u32 {
-    if i < PLACE {
+    if i < PARAMETER {
         return same(asked, word);
     }
     if asked == 0 {
