@@ -1,13 +1,8 @@
 // The second reader: number and place for any text of a book, by document 01 alone. One pass over the bytes, with what has been noted so
 // far in lent words; it shares no code with the reader and has no recursion. For the program `texts`, which compares the two.
-mod declared;
-mod header;
-mod noted;
 mod tokens;
 
-pub use declared::Part;
-pub use declared::name;
-pub use noted::WORDS;
+use noted::declared;
 
 // "at most 4,096 bytes"
 const TEXT_BYTES: usize = 4096;
@@ -34,7 +29,7 @@ pub fn judge(text: &[u8], work: &mut [u32]) -> Verdict {
     }
 }
 
-// Byte by byte, the end of the text after the last.
+// Byte by byte, then the end of the text.
 fn scan(text: &[u8], work: &mut [u32]) {
     let mut at: usize = 0;
     while at <= text.len() && noted::get(work, noted::PHASE) != noted::OVER {

@@ -1,22 +1,14 @@
 // The pattern, byte by byte: a name as long as it goes, or a sign; how many parentheses are open, and whether an item stands before, in
-// place of recursion. For 7 and 8 a few bits to each depth say what every word has. For the second reader.
-use crate::declared;
-use crate::noted;
+// place of recursion. For the second reader.
 use noted::DEPTH;
-use noted::ITEM;
-use noted::LACKED;
-use noted::SEQUENCE;
 use noted::STANDS;
+use noted::declared;
+use noted::levels;
 
 // "At most 31 symbol occurrences, at most 16 parentheses open together".
 const OCCURRENCE_LIMIT: u32 = 31;
 
 const OPEN_LIMIT: u32 = 16;
-
-// What every word of a part of the pattern has: a bit to each variable where it binds it, and a fifth where it is not empty. All of them.
-const NOT_EMPTY: u32 = 16;
-
-const ALL: u32 = 31;
 
 pub fn step(text: &[u8], work: &mut [u32], at: u32, b: u32) {
     let inside = noted::get(work, noted::RUN) == noted::WORD;
@@ -69,10 +61,10 @@ fn name_end(text: &[u8], work: &mut [u32], at: u32) {
     noted::fault_if(n == names, work, 5, from);
     noted::up(work, noted::OCCURRENCES);
     noted::put(work, noted::RUN, noted::NOTHING);
-    item(work, NOT_EMPTY | declared::binds(work, n));
+    levels::item(work, levels::NOT_EMPTY | declared::binds(work, n));
 }
 
-// Every sign but `(` wants an item before it; "a missing one is placed at the LF".
+// Every sign but `(` wants an item before it, as does the end.
 fn sign(work: &mut [u32], at: u32, b: u32) {
     let stands = noted::get(work, STANDS) != 0;
     noted::fault_if(!stands && b != b'(' as u32, work, 6, at);
@@ -81,14 +73,15 @@ fn sign(work: &mut [u32], at: u32, b: u32) {
     } else if b == b')' as u32 {
         close(work, at);
     } else if b == b'|' as u32 {
-        divide(work);
+        levels::divide(work);
     } else if b == b'*' as u32 || b == b'?' as u32 {
-        put(work, ITEM, 0);
+        levels::optional(work);
     } else {
         noted::fault_if(b != b'+' as u32, work, 6, at);
     }
 }
 
+// "a missing one is placed at the LF, a missing LF at the book's end"
 fn line_end(work: &mut [u32], at: u32, b: u32) {
     let depth = noted::get(work, DEPTH);
     let stands = noted::get(work, STANDS);
@@ -100,76 +93,30 @@ fn line_end(work: &mut [u32], at: u32, b: u32) {
     }
 }
 
-// The words of the depth that the scan is at.
-fn index(work: &[u32], i: usize) -> usize {
-    let depth = noted::get(work, DEPTH) as usize % noted::LEVELS;
-    noted::LEVEL + depth * noted::LEVEL_WORDS + i % noted::LEVEL_WORDS
-}
-
-fn get(work: &[u32], i: usize) -> u32 {
-    noted::get(work, index(work, i))
-}
-
-fn put(work: &mut [u32], i: usize, x: u32) {
-    let at = index(work, i);
-    noted::put(work, at, x);
-}
-
-// What every word of the sequence has, its last item included: what either part has.
-fn sequence(work: &[u32]) -> u32 {
-    get(work, SEQUENCE) | get(work, ITEM)
-}
-
-// What every word of the alternation has, this sequence included: what no word of those before lacks.
-fn alternation(work: &[u32]) -> u32 {
-    sequence(work) & (ALL ^ get(work, LACKED))
-}
-
-// One item more.
-fn item(work: &mut [u32], x: u32) {
-    let before = sequence(work);
-    put(work, SEQUENCE, before);
-    put(work, ITEM, x);
-    noted::put(work, STANDS, 1);
-}
-
-fn divide(work: &mut [u32]) {
-    let lacked = get(work, LACKED) | ALL ^ sequence(work);
-    begin(work, lacked);
-}
-
-// A sequence of which there is nothing yet.
-fn begin(work: &mut [u32], lacked: u32) {
-    put(work, LACKED, lacked);
-    put(work, SEQUENCE, 0);
-    put(work, ITEM, 0);
-    noted::put(work, STANDS, 0);
-}
-
 fn open(work: &mut [u32], at: u32) {
     noted::fault_if(noted::get(work, DEPTH) == OPEN_LIMIT, work, 3, at);
     noted::up(work, DEPTH);
-    begin(work, 0);
+    levels::begin(work, 0);
 }
 
 // The alternation in parentheses is an item of what is around it.
 fn close(work: &mut [u32], at: u32) {
     let depth = noted::get(work, DEPTH);
-    let x = alternation(work);
+    let x = levels::alternation(work);
     if depth == 0 {
         noted::fault(work, 6, at);
         return;
     }
     noted::put(work, DEPTH, depth - 1);
-    item(work, x);
+    levels::item(work, x);
 }
 
 // "No word of the pattern may be empty, and each word must contain, for each variable, a symbol that binds it."
 pub fn words(work: &mut [u32]) {
-    let x = alternation(work);
+    let x = levels::alternation(work);
     let variables = noted::get(work, noted::VARIABLES);
-    let bound = x | ALL << (variables % 8);
+    let bound = x | levels::ALL << (variables % 8);
     let first = noted::get(work, noted::FIRST);
-    noted::fault_if(x & NOT_EMPTY == 0, work, 7, first);
-    noted::fault_if(bound & ALL != ALL, work, 8, first);
+    noted::fault_if(x & levels::NOT_EMPTY == 0, work, 7, first);
+    noted::fault_if(bound & levels::ALL != levels::ALL, work, 8, first);
 }

@@ -1,8 +1,6 @@
 // Every text that is one edit away from some books, and texts with two edits drawn at random, go to the reader and to the second reader:
 // numbers and places are compared, and where names were declared. Prints how many there were, and the first differences.
-mod bases;
-mod edits;
-
+use noted::declared;
 use scanner::Verdict;
 
 // Long texts have so many bytes, less one.
@@ -29,7 +27,7 @@ const BOUND: u32 = 1000000000;
 
 fn main() {
     let mut score = [0u32; SCORE_WORDS];
-    let mut work = [0u32; scanner::WORDS];
+    let mut work = [0u32; noted::WORDS];
     longs(&mut work, &mut score);
     singles(&mut work, &mut score);
     pairs(&mut work, &mut score);
@@ -76,15 +74,15 @@ fn longs(work: &mut [u32], score: &mut [u32]) {
 // A base text with so many spaces before its last LF that it has this size.
 fn long(size: usize, work: &mut [u32], score: &mut [u32]) {
     let mut text = [b' '; LONGEST];
-    let base = bases::base(0, &mut text) % LONGEST;
-    bases::push(&mut text, (base + LONGEST - 1) % LONGEST, b' ' as u32);
-    bases::push(&mut text, size, b'\n' as u32);
-    compared(bases::part(&text, 0, size % LONGEST + 1), work, score);
+    let base = edits::base(0, &mut text) % LONGEST;
+    edits::push(&mut text, (base + LONGEST - 1) % LONGEST, b' ' as u32);
+    edits::push(&mut text, size, b'\n' as u32);
+    compared(edits::part(&text, 0, size % LONGEST + 1), work, score);
 }
 
 fn singles(work: &mut [u32], score: &mut [u32]) {
     let mut k: usize = 0;
-    while k < bases::BASES {
+    while k < edits::BASES {
         each(k, work, score);
         k += 1;
     }
@@ -92,20 +90,20 @@ fn singles(work: &mut [u32], score: &mut [u32]) {
 
 // Every edit of one base text.
 fn each(k: usize, work: &mut [u32], score: &mut [u32]) {
-    let mut text = [0u8; bases::ROOM];
-    let size = bases::base(k, &mut text) % bases::ROOM;
+    let mut text = [0u8; edits::ROOM];
+    let size = edits::base(k, &mut text) % edits::ROOM;
     let mut i: usize = 0;
     while i < (size + 1) * edits::KINDS {
-        single(bases::part(&text, 0, size), i, work, score);
+        single(edits::part(&text, 0, size), i, work, score);
         i += 1;
     }
 }
 
 fn single(text: &[u8], i: usize, work: &mut [u32], score: &mut [u32]) {
-    let mut out = [0u8; bases::ROOM];
+    let mut out = [0u8; edits::ROOM];
     let e = edits::of_kind(text, i % edits::KINDS, i / edits::KINDS);
     let size = edits::edited(text, e, &mut out);
-    compared(bases::part(&out, 0, size), work, score);
+    compared(edits::part(&out, 0, size), work, score);
 }
 
 fn pairs(work: &mut [u32], score: &mut [u32]) {
@@ -117,15 +115,15 @@ fn pairs(work: &mut [u32], score: &mut [u32]) {
 }
 
 fn pair(i: u64, work: &mut [u32], score: &mut [u32]) {
-    let mut text = [0u8; bases::ROOM];
-    let mut out = [0u8; bases::ROOM];
-    let k = draws::below(i, 0, bases::BASES as u64) as usize;
-    let base = bases::base(k, &mut text);
-    let e = drawn(i, 1, bases::part(&text, 0, base));
-    let once = edits::edited(bases::part(&text, 0, base), e, &mut out);
-    let e = drawn(i, 4, bases::part(&out, 0, once));
-    let twice = edits::edited(bases::part(&out, 0, once), e, &mut text);
-    compared(bases::part(&text, 0, twice), work, score);
+    let mut text = [0u8; edits::ROOM];
+    let mut out = [0u8; edits::ROOM];
+    let k = draws::below(i, 0, edits::BASES as u64) as usize;
+    let base = edits::base(k, &mut text);
+    let e = drawn(i, 1, edits::part(&text, 0, base));
+    let once = edits::edited(edits::part(&text, 0, base), e, &mut out);
+    let e = drawn(i, 4, edits::part(&out, 0, once));
+    let twice = edits::edited(edits::part(&out, 0, once), e, &mut text);
+    compared(edits::part(&text, 0, twice), work, score);
 }
 
 // An edit of the text, the first or the second of pair number i, by three draws from k on: in the pattern more often than before it.
@@ -158,13 +156,13 @@ fn compared(text: &[u8], work: &mut [u32], score: &mut [u32]) {
 
 // Whether the name with a number is the part of the text where the second reader found it declared.
 fn named(text: &[u8], work: &[u32], number: u32) -> bool {
-    let p = scanner::name(work, number);
+    let p = declared::name(work, number);
     let n = reader::name_place(text, number as usize);
     p.start == n.start
         && p.size == n.size
         && check::same(
             reader::name(text, number as usize),
-            bases::part(text, p.start, p.size),
+            edits::part(text, p.start, p.size),
         )
 }
 

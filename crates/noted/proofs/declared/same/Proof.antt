@@ -1,8 +1,8 @@
--- `scanner::declared::same` is safe and ends: the turns are counted.
+-- `noted::declared::same` is safe and ends: the turns are counted.
 use Prim.Native.Nat.{_-_, _≤_}
 use borrow.Author.Needs.{needs}
-use Rattle.scanner.proofs.declared.same.Statement.{statement}
-use Rattle.scanner.proofs.declared.same.Tie as tie
+use Rattle.noted.proofs.declared.same.Statement.{statement}
+use Rattle.noted.proofs.declared.same.Tie as tie
 
 abbrev Inv-loop : tie.InvT-loop
 Inv-loop text a other b size i₀ i = i ≤ size

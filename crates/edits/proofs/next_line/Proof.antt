@@ -1,9 +1,9 @@
--- `texts::edits::next_line` is safe and ends: the turns are counted.
+-- `edits::next_line` is safe and ends: the turns are counted.
 use Prim.Native.Nat.{_-_, _≤_}
 use lib.ListN.{length}
 use borrow.Author.Needs.{needs}
-use Rattle.texts.proofs.edits.next_line.Statement.{statement}
-use Rattle.texts.proofs.edits.next_line.Tie as tie
+use Rattle.edits.proofs.next_line.Statement.{statement}
+use Rattle.edits.proofs.next_line.Tie as tie
 
 abbrev Inv-loop : tie.InvT-loop
 Inv-loop text p i₀ i = p ≤ i

@@ -1,11 +1,10 @@
 // The lines before the pattern, byte by byte: words divided by one space, each judged where it ends by the line's number and its own.
-// For the second reader.
-use crate::declared;
-use crate::noted;
+// For `scanner`, the second reader.
 use noted::BOUND;
 use noted::FROM;
 use noted::RUN;
 use noted::WORD_COUNT;
+use noted::declared;
 
 // "0 to 4 variable names", "1 to 16 lines", "0 to 4 words", "1 to 255"; and a value that is no KIND.
 const VARIABLE_LIMIT: u32 = 4;

@@ -1,8 +1,7 @@
 // The names that were declared, kept as parts of the text and compared by their bytes; and a word compared with the one that it must be.
 // For the second reader.
-use crate::noted;
-use noted::BOUND;
-use noted::NAME_WORDS;
+use crate::BOUND;
+use crate::NAME_WORDS;
 
 // "1 to 12 bytes"
 pub const NAME_BYTES: u32 = 12;
@@ -21,7 +20,7 @@ pub fn byte(text: &[u8], i: usize) -> u32 {
     if i < text.len() {
         wide(text[i])
     } else {
-        noted::END
+        crate::END
     }
 }
 
@@ -66,19 +65,19 @@ pub fn spells(text: &[u8], from: u32, size: u32, word: &[u8]) -> bool {
 }
 
 fn index(n: u32, i: usize) -> usize {
-    noted::NAME + (n % BOUND) as usize * NAME_WORDS + i % NAME_WORDS
+    crate::NAME + (n % BOUND) as usize * NAME_WORDS + i % NAME_WORDS
 }
 
 // The first name, of those with numbers from `first` to before `last`, that is this part of the text; `last` where none is.
 pub fn find(text: &[u8], work: &[u32], first: u32, last: u32, from: u32, size: u32) -> u32 {
     let mut n = first;
     while n < last {
-        if noted::get(work, index(n, noted::SIZE)) == size
+        if crate::get(work, index(n, crate::SIZE)) == size
             && same(
                 text,
                 from,
                 text,
-                noted::get(work, index(n, noted::START)),
+                crate::get(work, index(n, crate::START)),
                 size,
             )
         {
@@ -91,32 +90,32 @@ pub fn find(text: &[u8], work: &[u32], first: u32, last: u32, from: u32, size: u
 
 // One name more.
 pub fn declare(work: &mut [u32], from: u32, size: u32) {
-    let n = noted::get(work, noted::NAMES);
-    noted::put(work, index(n, noted::START), from);
-    noted::put(work, index(n, noted::SIZE), size);
-    noted::up(work, noted::NAMES);
+    let n = crate::get(work, crate::NAMES);
+    crate::put(work, index(n, crate::START), from);
+    crate::put(work, index(n, crate::SIZE), size);
+    crate::up(work, crate::NAMES);
 }
 
 // The last name binds a variable.
 pub fn bind(work: &mut [u32], variable: u32) {
-    let names = noted::get(work, noted::NAMES) % BOUND;
-    let i = index(names + BOUND - 1, noted::BINDS);
-    let binds = noted::get(work, i);
-    noted::put(work, i, binds | 1 << (variable % 32));
+    let names = crate::get(work, crate::NAMES) % BOUND;
+    let i = index(names + BOUND - 1, crate::BINDS);
+    let binds = crate::get(work, i);
+    crate::put(work, i, binds | 1 << (variable % 32));
 }
 
 // What the name with a number binds, a bit to each variable.
 pub fn binds(work: &[u32], n: u32) -> u32 {
-    noted::get(work, index(n, noted::BINDS))
+    crate::get(work, index(n, crate::BINDS))
 }
 
 // Where the name with a number was declared; nothing where it was not, or the text was refused.
 pub fn name(work: &[u32], n: u32) -> Part {
-    if noted::get(work, noted::LEAST) != 0 || noted::get(work, noted::NAMES) <= n {
+    if crate::get(work, crate::LEAST) != 0 || crate::get(work, crate::NAMES) <= n {
         return Part { start: 0, size: 0 };
     }
     Part {
-        start: noted::get(work, index(n, noted::START)) as usize,
-        size: noted::get(work, index(n, noted::SIZE)) as usize,
+        start: crate::get(work, index(n, crate::START)) as usize,
+        size: crate::get(work, index(n, crate::SIZE)) as usize,
     }
 }

@@ -1,8 +1,8 @@
--- `scanner::declared::find` is safe and ends: the turns are counted.
+-- `noted::declared::find` is safe and ends: the turns are counted.
 use Prim.Native.Nat.{_-_, _≤_}
 use borrow.Author.Needs.{needs}
-use Rattle.scanner.proofs.declared.find.Statement.{statement}
-use Rattle.scanner.proofs.declared.find.Tie as tie
+use Rattle.noted.proofs.declared.find.Statement.{statement}
+use Rattle.noted.proofs.declared.find.Tie as tie
 
 abbrev Inv-loop : tie.InvT-loop
 Inv-loop text work first last from size n₀ n = first ≤ n

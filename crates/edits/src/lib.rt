@@ -1,7 +1,13 @@
 // The edits of a text: a text without what follows a place, with a byte or the rest of a line left out or doubled, with two bytes
 // exchanged, with another byte in the place of one or before it. For the program `texts`.
-use crate::bases;
+mod bases;
+
+pub use bases::BASES;
 use bases::NONE;
+pub use bases::ROOM;
+pub use bases::base;
+pub use bases::part;
+pub use bases::push;
 
 // The bytes that are put in; the kinds of edits: six, and two for each of these.
 const OTHERS: usize = 21;

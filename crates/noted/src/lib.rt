@@ -1,5 +1,8 @@
 // What the second reader has noted so far, a word to each thing, with checked reads and writes: 0 where there is nothing, no change where
-// there is no place. For the other files of `scanner`.
+// there is no place. For `scanner`, which reads a text byte by byte; what it notes of names is in `declared`, of the
+// pattern's words in `levels`.
+pub mod declared;
+pub mod levels;
 
 // Where the scan is: on the lines before the pattern, in the pattern, behind its LF, or done.
 pub const PHASE: usize = 0;
