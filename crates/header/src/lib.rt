@@ -1,12 +1,11 @@
 // The lines before the pattern, byte by byte: words divided by one space, each judged where it ends by the line's number and its own.
 // For `scanner`, the second reader.
-use noted::BOUND;
 use noted::FROM;
 use noted::RUN;
 use noted::WORD_COUNT;
 use noted::declared;
 
-// "0 to 4 variable names", "1 to 16 lines", "0 to 4 words", "1 to 255"; and a value that is no KIND.
+// "0 to 4 variable names", "1 to 16 lines", "KIND is 1 to 255"; and a value that is no KIND.
 const VARIABLE_LIMIT: u32 = 4;
 
 const SYMBOL_LIMIT: u32 = 16;
@@ -125,7 +124,7 @@ fn vars_word(text: &[u8], work: &mut [u32], i: u32, from: u32, size: u32) {
     }
 }
 
-// "`sym NAME KIND ARGS`"
+// "`sym NAME KIND ARGS`. … ARGS are 0 to 4 words"
 fn sym_word(text: &[u8], work: &mut [u32], i: u32, from: u32, size: u32) {
     match i {
         1 => {
