@@ -52,7 +52,7 @@ fn filled(x: u64) -> Disjunct {
 }
 
 // What is held stands first; the places behind it are as told.
-fn placed(h: Held, position: u32, other: Disjunct) -> State {
+fn pooled(h: Held, position: u32, other: Disjunct) -> State {
     let first = h.first;
     let second = h.second;
     let mut r = State {
@@ -75,7 +75,7 @@ fn placed(h: Held, position: u32, other: Disjunct) -> State {
 // The state as the watch leaves it, all that is not counted zero.
 pub fn clean(h: Held) -> State {
     let f = free();
-    placed(h, 0, f)
+    pooled(h, 0, f)
 }
 
 // The same with all that no count reaches filled with x.
@@ -91,7 +91,7 @@ pub fn spare(h: Held, x: u64) -> State {
         first: d,
         second: e,
     };
-    placed(dirty, amounts::short(x), f)
+    pooled(dirty, amounts::short(x), f)
 }
 
 // The variables beyond the two, the exclusions beyond their count and the value of a free variable filled with x.

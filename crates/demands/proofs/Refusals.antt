@@ -268,7 +268,8 @@ stored = refl
 abbrev crowded : Book
 crowded =
     struct 1 2 inside
-    (record { kind = 1; count = 1; parameters = parameter 1 0 ∷ replicate 3 (parameter 0 0) } ∷ record { kind = 1; count = 1; parameters = replicate 4 (parameter 0 0) }
+    (record { kind = 1; count = 1; parameters = parameter 1 0 ∷ replicate 3 (parameter 0 0) }
+    ∷ record { kind = 1; count = 1; parameters = replicate 4 (parameter 0 0) }
     ∷ replicate 14 (record { kind = 0; count = 0; parameters = replicate 4 (parameter 0 0) })) 2 (1 ∷ replicate 30 0) 2 2 (4 ∷ replicate 30 0) false
 
 abbrev tired : State

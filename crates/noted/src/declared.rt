@@ -1,0 +1,121 @@
+// The names that were declared, kept as parts of the text and compared by their bytes; and a word compared with the one that it must be.
+// For the second reader.
+use crate::BOUND;
+use crate::NAME_WORDS;
+
+// "1 to 12 bytes"
+pub const NAME_BYTES: u32 = 12;
+
+// A number that is no digit.
+pub const NO_DIGIT: u32 = 10;
+
+// A part of a text.
+pub struct Part {
+    pub start: usize,
+    pub size: usize,
+}
+
+// A byte of the text, or what stands behind its end.
+pub fn byte(text: &[u8], i: usize) -> u32 {
+    if i < text.len() {
+        wide(text[i])
+    } else {
+        crate::END
+    }
+}
+
+fn wide(b: u8) -> u32 {
+    b as u32
+}
+
+// "A name is a to z, then a to z or 0 to 9"
+pub fn is_letter(b: u32) -> bool {
+    b'a' as u32 <= b && b <= b'z' as u32
+}
+
+pub fn is_digit(b: u32) -> bool {
+    digit(b) < NO_DIGIT
+}
+
+pub fn digit(b: u32) -> u32 {
+    if b'0' as u32 <= b && b <= b'9' as u32 {
+        b - b'0' as u32
+    } else {
+        NO_DIGIT
+    }
+}
+
+// Whether so many bytes from a place on are those of another text from a place on.
+fn same(text: &[u8], a: u32, other: &[u8], b: u32, size: u32) -> bool {
+    let mut i: u32 = 0;
+    while i < size {
+        if byte(text, (a % BOUND + i % BOUND) as usize)
+            != byte(other, (b % BOUND + i % BOUND) as usize)
+        {
+            return false;
+        }
+        i += 1;
+    }
+    true
+}
+
+// Whether the part of the text is this word.
+pub fn spells(text: &[u8], from: u32, size: u32, word: &[u8]) -> bool {
+    size as usize == word.len() && same(text, from, word, 0, size)
+}
+
+fn index(n: u32, i: usize) -> usize {
+    crate::NAME + (n % BOUND) as usize * NAME_WORDS + i % NAME_WORDS
+}
+
+// The first name, of those with numbers from `first` to before `last`, that is this part of the text; `last` where none is.
+pub fn find(text: &[u8], work: &[u32], first: u32, last: u32, from: u32, size: u32) -> u32 {
+    let mut n = first;
+    while n < last {
+        if crate::get(work, index(n, crate::SIZE)) == size
+            && same(
+                text,
+                from,
+                text,
+                crate::get(work, index(n, crate::START)),
+                size,
+            )
+        {
+            return n;
+        }
+        n += 1;
+    }
+    last
+}
+
+// One name more.
+pub fn declare(work: &mut [u32], from: u32, size: u32) {
+    let n = crate::get(work, crate::NAMES);
+    crate::put(work, index(n, crate::START), from);
+    crate::put(work, index(n, crate::SIZE), size);
+    crate::up(work, crate::NAMES);
+}
+
+// The last name binds a variable.
+pub fn bind(work: &mut [u32], variable: u32) {
+    let names = crate::get(work, crate::NAMES) % BOUND;
+    let i = index(names + BOUND - 1, crate::BINDS);
+    let binds = crate::get(work, i);
+    crate::put(work, i, binds | 1 << (variable % 32));
+}
+
+// What the name with a number binds, a bit to each variable.
+pub fn binds(work: &[u32], n: u32) -> u32 {
+    crate::get(work, index(n, crate::BINDS))
+}
+
+// Where the name with a number was declared; nothing where it was not, or the text was refused.
+pub fn name(work: &[u32], n: u32) -> Part {
+    if crate::get(work, crate::LEAST) != 0 || crate::get(work, crate::NAMES) <= n {
+        return Part { start: 0, size: 0 };
+    }
+    Part {
+        start: crate::get(work, index(n, crate::START)) as usize,
+        size: crate::get(work, index(n, crate::SIZE)) as usize,
+    }
+}

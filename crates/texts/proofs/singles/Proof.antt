@@ -1,0 +1,52 @@
+-- `texts::singles` is safe and ends: the turns are counted.
+use mathlib.Core.Path.{_≡_}
+use Prim.Native.Nat.{_-_}
+use lib.ListN.{length}
+use borrow.Author.Needs.{needs}
+use Rattle.texts.proofs.singles.Statement.{statement}
+use Rattle.texts.proofs.singles.Tie as tie
+
+abbrev Inv-loop : tie.InvT-loop
+Inv-loop work₀ score₀ k₀ work score k = (length work ≡ length work₀) × (length score ≡ length score₀)
+
+abbrev μ-loop : tie.MeasureT-loop
+μ-loop work₀ score₀ k₀ work score k = 9 - k
+
+loop-holds : tie.Need-loop-holds Inv-loop μ-loop
+loop-holds c = search needs
+
+each-requires : tie.Need-each-requires Inv-loop μ-loop
+each-requires c κs = search needs
+
+add-k : tie.Need-add-k Inv-loop μ-loop
+add-k c = search needs
+
+loop-less : tie.Need-loop-less Inv-loop μ-loop
+loop-less c = search needs
+
+loop-again : tie.Need-loop-again Inv-loop μ-loop
+loop-again c = search needs
+
+same-length : tie.Need-same-length Inv-loop μ-loop
+same-length c = search needs
+
+same-length-2 : tie.Need-same-length-2 Inv-loop μ-loop
+same-length-2 c = search needs
+
+returns : tie.Need-returns Inv-loop μ-loop
+returns c = search needs
+
+pub singles-spec : {M : Type 1} → statement M
+singles-spec =
+    tie.close
+    (tie.spec
+    Inv-loop
+    μ-loop
+    loop-holds
+    each-requires
+    add-k
+    loop-less
+    loop-again
+    same-length
+    same-length-2
+    returns)
