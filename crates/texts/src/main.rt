@@ -74,15 +74,15 @@ fn longs(work: &mut [u32], score: &mut [u32]) {
 // A base text with so many spaces before its last LF that it has this size.
 fn long(size: usize, work: &mut [u32], score: &mut [u32]) {
     let mut text = [b' '; LONGEST];
-    let base = edits::base(0, &mut text) % LONGEST;
-    edits::push(&mut text, (base + LONGEST - 1) % LONGEST, b' ' as u32);
-    edits::push(&mut text, size, b'\n' as u32);
-    compared(edits::part(&text, 0, size % LONGEST + 1), work, score);
+    let base = variants::base(0, &mut text) % LONGEST;
+    variants::push(&mut text, (base + LONGEST - 1) % LONGEST, b' ' as u32);
+    variants::push(&mut text, size, b'\n' as u32);
+    compared(variants::part(&text, 0, size % LONGEST + 1), work, score);
 }
 
 fn singles(work: &mut [u32], score: &mut [u32]) {
     let mut k: usize = 0;
-    while k < edits::BASES {
+    while k < variants::BASES {
         each(k, work, score);
         k += 1;
     }
@@ -90,20 +90,20 @@ fn singles(work: &mut [u32], score: &mut [u32]) {
 
 // Every edit of one base text.
 fn each(k: usize, work: &mut [u32], score: &mut [u32]) {
-    let mut text = [0u8; edits::ROOM];
-    let size = edits::base(k, &mut text) % edits::ROOM;
+    let mut text = [0u8; variants::ROOM];
+    let size = variants::base(k, &mut text) % variants::ROOM;
     let mut i: usize = 0;
-    while i < (size + 1) * edits::KINDS {
-        single(edits::part(&text, 0, size), i, work, score);
+    while i < (size + 1) * variants::KINDS {
+        single(variants::part(&text, 0, size), i, work, score);
         i += 1;
     }
 }
 
 fn single(text: &[u8], i: usize, work: &mut [u32], score: &mut [u32]) {
-    let mut out = [0u8; edits::ROOM];
-    let e = edits::of_kind(text, i % edits::KINDS, i / edits::KINDS);
-    let size = edits::edited(text, e, &mut out);
-    compared(edits::part(&out, 0, size), work, score);
+    let mut out = [0u8; variants::ROOM];
+    let e = variants::of_kind(text, i % variants::KINDS, i / variants::KINDS);
+    let size = variants::edited(text, e, &mut out);
+    compared(variants::part(&out, 0, size), work, score);
 }
 
 fn pairs(work: &mut [u32], score: &mut [u32]) {
@@ -115,23 +115,23 @@ fn pairs(work: &mut [u32], score: &mut [u32]) {
 }
 
 fn pair(i: u64, work: &mut [u32], score: &mut [u32]) {
-    let mut text = [0u8; edits::ROOM];
-    let mut out = [0u8; edits::ROOM];
-    let k = draws::below(i, 0, edits::BASES as u64) as usize;
-    let base = edits::base(k, &mut text);
-    let e = drawn(i, 1, edits::part(&text, 0, base));
-    let once = edits::edited(edits::part(&text, 0, base), e, &mut out);
-    let e = drawn(i, 4, edits::part(&out, 0, once));
-    let twice = edits::edited(edits::part(&out, 0, once), e, &mut text);
-    compared(edits::part(&text, 0, twice), work, score);
+    let mut text = [0u8; variants::ROOM];
+    let mut out = [0u8; variants::ROOM];
+    let k = draws::below(i, 0, variants::BASES as u64) as usize;
+    let base = variants::base(k, &mut text);
+    let e = drawn(i, 1, variants::part(&text, 0, base));
+    let once = variants::edited(variants::part(&text, 0, base), e, &mut out);
+    let e = drawn(i, 4, variants::part(&out, 0, once));
+    let twice = variants::edited(variants::part(&out, 0, once), e, &mut text);
+    compared(variants::part(&text, 0, twice), work, score);
 }
 
 // An edit of the text, the first or the second of pair number i, by three draws from k on: in the pattern more often than before it.
-fn drawn(i: u64, k: u64, text: &[u8]) -> edits::Edit {
-    let kind = draws::below(i, k, edits::KINDS as u64) as usize;
+fn drawn(i: u64, k: u64, text: &[u8]) -> variants::Edit {
+    let kind = draws::below(i, k, variants::KINDS as u64) as usize;
     let from = draws::below(i, k % BOUND as u64 + 1, text.len() as u64);
     let place = draws::below(i, k % BOUND as u64 + 2, text.len() as u64);
-    edits::of_kind(text, kind, later(from, place) as usize)
+    variants::of_kind(text, kind, later(from, place) as usize)
 }
 
 fn later(a: u64, b: u64) -> u64 {
@@ -162,7 +162,7 @@ fn named(text: &[u8], work: &[u32], number: u32) -> bool {
         && p.size == n.size
         && check::same(
             reader::name(text, number as usize),
-            edits::part(text, p.start, p.size),
+            variants::part(text, p.start, p.size),
         )
 }
 

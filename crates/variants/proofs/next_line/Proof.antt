@@ -1,9 +1,9 @@
--- `edits::next_line` is safe and ends: the turns are counted.
+-- `variants::next_line` is safe and ends: the turns are counted.
 use Prim.Native.Nat.{_-_, _≤_}
 use lib.ListN.{length}
 use borrow.Author.Needs.{needs}
-use Rattle.edits.proofs.next_line.Statement.{statement}
-use Rattle.edits.proofs.next_line.Tie as tie
+use Rattle.variants.proofs.next_line.Statement.{statement}
+use Rattle.variants.proofs.next_line.Tie as tie
 
 abbrev Inv-loop : tie.InvT-loop
 Inv-loop text p i₀ i = p ≤ i

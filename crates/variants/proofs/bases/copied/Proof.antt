@@ -1,22 +1,16 @@
--- `edits::edited` is safe and ends: the turns are counted.
+-- `variants::bases::copied` is safe and ends: the turns are counted.
 use mathlib.Core.Path.{_≡_}
 use Prim.Native.Nat.{_-_}
 use lib.ListN.{length}
 use borrow.Author.Needs.{needs}
-use Rattle.edits.proofs.edited.Statement.{statement}
-use Rattle.edits.proofs.edited.Tie as tie
+use Rattle.variants.proofs.bases.copied.Statement.{statement}
+use Rattle.variants.proofs.bases.copied.Tie as tie
 
 abbrev Inv-loop : tie.InvT-loop
-Inv-loop text e out₀ last n₀ i₀ out n i = length out ≡ length out₀
+Inv-loop from text₀ n₀ i₀ text n i = length text ≡ length text₀
 
 abbrev μ-loop : tie.MeasureT-loop
-μ-loop text e out₀ last n₀ i₀ out n i = last - i
-
-add-last : tie.Need-add-last Inv-loop μ-loop
-add-last c = search needs
-
-add-last-2 : tie.Need-add-last-2 Inv-loop μ-loop
-add-last-2 c = search needs
+μ-loop from text₀ n₀ i₀ text n i = length from - i
 
 loop-holds : tie.Need-loop-holds Inv-loop μ-loop
 loop-holds c = search needs
@@ -42,14 +36,12 @@ same-length c = search needs
 returns : tie.Need-returns Inv-loop μ-loop
 returns c = search needs
 
-pub edited-spec : {M : Type 1} → statement M
-edited-spec =
+pub copied-spec : {M : Type 1} → statement M
+copied-spec =
     tie.close
     (tie.spec
     Inv-loop
     μ-loop
-    add-last
-    add-last-2
     loop-holds
     byte-requires
     push-requires
