@@ -93,6 +93,14 @@ pub sound-entries : map (λ D. soundPiece (book 2 [] (0 ∷ []) 0 0 [] false) (h
 unfolding soundPiece
 sound-entries = refl
 
+-- each of four variables is judged
+pub sound-four : map (λ D. soundPiece (book 4 [] (0 ∷ []) 0 0 [] false) (heldAt 1 D))
+    ((bound 1 ∷ bound 1 ∷ free (7 ∷ 8 ∷ []) ∷ free [] ∷ []) ∷ (bound 1 ∷ bound 1 ∷ free (8 ∷ 7 ∷ []) ∷ free [] ∷ [])
+    ∷ (bound 1 ∷ bound 1 ∷ free [] ∷ free (7 ∷ 7 ∷ []) ∷ []) ∷ [])
+    ≡ true ∷ false ∷ false ∷ []
+unfolding soundPiece
+sound-four = refl
+
 -- "No room, exactly", at 128: one disjunct ends and one comes; a step set of 128; 129 meetings that are one disjunct; 129 exclusions that are 86
 -- disjuncts; four exclusions at each of two variables. Then: a step set of 129, and a seventh exclusion, at a position that nothing follows.
 abbrev two : ℕ → List Symbol → Book

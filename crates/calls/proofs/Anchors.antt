@@ -32,7 +32,7 @@ use Rattle.sound.specs.Soundness.{symbolCounts, bookCounts, bookSound, slotCoun
 use Rattle.calls.specs.Calls.{freshState, rowsBy, stateBy, leavesFreeBy, roomBy, unsound, outOfForm, tooMany, noRoom, noSpace}
 use Rattle.calls.specs.Calls.{answerTo, taken, bufferAfter}
 use Rattle.calls.specs.Answers.{numberOf}
-use Rattle.calls.specs.Runs.{Call, event, Made, make, runOf}
+use Rattle.calls.specs.Runs.{Call, event, Made, make, runOf, behindNumber}
 use Rattle.calls.specs.Witness.{text, load, dropped}
 
 -- what a call hands back and leaves: number, rows, tally (accepted, refused, rows), the state's event number and count, the buffer
@@ -99,3 +99,7 @@ unfolding bit join meet single pad matches constraintOf soundBook soundSymbol co
     slotCounts stateCounts stateSound freshState rowsBy stateBy leavesFreeBy roomBy unsound outOfForm tooMany noRoom noSpace answerTo taken make
     bufferAfter rowBytes wordBytes splice front tallied capped
 room-first = (refl, refl, refl)
+
+-- "bytes 4 to 23" of the row that begins at 0, and of the one at 30
+pub tail-bytes : (behindNumber 0 (numbers 0 60) ≡ numbers 4 20) × (behindNumber 30 (numbers 0 60) ≡ numbers 34 20)
+tail-bytes = (refl, refl)

@@ -1,6 +1,6 @@
 -- The comparison of numbers is an order; so is the lexicographic one, and one that goes by two keys.
 use mathlib.Core.Path.{_≡_, refl, ap₂, _∙_}
-use mathlib.Core.List.{List, [], _∷_}
+use mathlib.Core.List.{List, [], _∷_, _++_}
 use Prim.Native.Nat.{ℕ, zero, suc, _<_, compare, Ordering, Ordering·lt, Ordering·eq, Ordering·gt}
 use Prim.Native.Nat.{compare·zero-zero, compare·zero-suc, compare·suc-zero, compare·suc-suc}
 use native.Mathlib.Omega.{arith}
@@ -91,6 +91,15 @@ module _ {A : Type 0} {cmp : A → A → Ordering} (o : IsOrder cmp) where
   lex-through (x ∷ k) [] m d e = cc
   lex-through (x ∷ k) (y ∷ l) [] d e = cc
   lex-through (x ∷ k) (y ∷ l) (z ∷ m) d e = then-through o x y z (lex cmp k l) (lex cmp l m) (lex cmp k m) (lex-through k l m) d e
+
+  -- "by the first differing value", whatever stands behind it and however much is the same before it; "a list before any that it begins"
+  pub first-differing : (p x y : List A) (a b : A) → cmp a b ≡ Ordering·lt → lex cmp (p ++ (a ∷ x)) (p ++ (b ∷ y)) ≡ Ordering·lt
+  first-differing [] x y a b h = rw h
+  first-differing (c ∷ p) x y a b h = rw (o .self c) (first-differing p x y a b h)
+
+  pub begun-before : (p y : List A) (b : A) → lex cmp p (p ++ (b ∷ y)) ≡ Ordering·lt
+  begun-before [] y b = refl
+  begun-before (c ∷ p) y b = rw (o .self c) (begun-before p y b)
 
 pub lex-order : {A : Type 0} {cmp : A → A → Ordering} → IsOrder cmp → IsOrder (lex cmp)
 lex-order o = record { self = lex-self o; equal = lex-equal o; turned = lex-turned o; through = lex-through o }

@@ -1,4 +1,4 @@
-// The listing of three pairs of files, each below its heading, for the gate to run it on what document 01's sample does not have.
+// The listing of nine pairs of files, each below its heading, for the gate to run it on what document 01's sample does not have.
 fn list(heading: &[u8], book: &[u8], events: &[u8]) {
     io::write_all(1, heading);
     printing::print_files(book, events);
@@ -10,8 +10,18 @@ fn list(heading: &[u8], book: &[u8], events: &[u8]) {
 //   drop(2).
 // - Beyond what is gathered before it is written: no variables, `sym a 1 _`, `sym b 1 _`, `match a b`, and 7,000 equal records (140,000 bytes);
 //   from the second on each gives the empty valuation, printed as `row` alone.
+// - A book of 4,096 bytes and one more; the same without it, with a record of one byte at the end.
+// - Four variables: 128 disjuncts, a load that has no room, and 25 drops with 128 rows each, in their order, over what is gathered.
+// - Three variables and 400 rows to one event, 9,600 bytes.
+// - A book of no bytes; no records.
 fn main() {
     list(b"refused\n", b"refused.txt", b"refused.events");
     list(b"short\n", b"short.txt", b"short.events");
     list(b"long\n", b"long.txt", b"long.events");
+    list(b"excess\n", b"excess.txt", b"excess.events");
+    list(b"limit\n", b"limit.txt", b"limit.events");
+    list(b"many\n", b"many.txt", b"many.events");
+    list(b"wide\n", b"wide.txt", b"wide.events");
+    list(b"empty\n", b"empty.txt", b"short.events");
+    list(b"nothing\n", b"short.txt", b"empty.events");
 }

@@ -4,7 +4,7 @@
 -- declarative meaning and demand 3 rule out, `independent` and `crossing` one that demand 3 covers.
 use mathlib.Core.Path.{_≡_, refl}
 use mathlib.Core.Bool.{Bool, true, false, _&&_, _||_, false≢true}
-use mathlib.Core.List.{List, [], _∷_, map}
+use mathlib.Core.List.{List, [], _∷_, _++_, map}
 use Prim.Native.Nat.{ℕ, zero, suc, _-_, _<_, compare, Ordering·lt, Ordering·eq}
 use native.Mathlib.Omega.{arith}
 use borrow.Author.Tests.{eqb-true}
@@ -12,7 +12,7 @@ use lib.ListN.{getD, replicate}
 use Rattle.laws.specs.Bits.{bit, join, meet, single}
 use Rattle.laws.specs.Lists.{all}
 use Rattle.laws.specs.Order.{lex, ascending}
-use Rattle.laws.proofs.Order.{lt-compare}
+use Rattle.laws.proofs.Order.{lt-compare, compare-order, first-differing, begun-before, lex-order}
 use Rattle.pattern.specs.Regex.{lit, cat, opt}
 use Rattle.meaning.specs.Events.{Event, ignored, names, matches, constraintOf, wellFormed, isValuation, holds, concerns}
 use Rattle.meaning.specs.Meaning.{Tracematch, noEvent, Row}
@@ -20,7 +20,7 @@ use Rattle.meaning.specs.Book.{bookOf, isProper, soundSymbol}
 use Rattle.meaning.specs.Labels.{bound, free, Disjunct, valueKey, exclusions, heldAt, compareDisjuncts}
 use Rattle.meaning.specs.Labels.{skipBy, sources, stepSet, skipSet, newLabel, newHeld}
 use Rattle.meaning.specs.Room.{setRoom, room}
-use Rattle.meaning.specs.Rows.{rows}
+use Rattle.meaning.specs.Rows.{rows, compareValuations}
 use Rattle.meaning.specs.Runs.{Call, heldAfter, Pairing, Dependent, Ordered}
 use Rattle.meaning.specs.Starred.{Case, Answer, answers, table, onTheWay, partial, partialCalls, partialHeld}
 use Rattle.meaning.specs.Starred.{mixed, mixedCalls, mixedHeld, thrice, thriceCalls, thriceHeld}
@@ -166,3 +166,17 @@ pub alternate-held : heldAfter
     ∷ heldAt 2 (bound 2 ∷ free [] ∷ []) ∷ heldAt 2 (bound 2 ∷ bound 9 ∷ []) ∷ []
 unfolding bit join single matches constraintOf bookOf compareDisjuncts skipBy sources stepSet skipSet newLabel newHeld
 alternate-held = refl
+
+-- "Rows of one event ascend by the first differing value; the comparison recurses on the variables left": for any number of variables, whatever
+-- stands before and behind
+pub row-order : (p x y : List ℕ) (a b : ℕ) → a < b → compareValuations (p ++ (a ∷ x)) (p ++ (b ∷ y)) ≡ Ordering·lt
+row-order p x y a b h = first-differing compare-order p x y a b (lt-compare a b h)
+
+-- the same of disjuncts: "then by values …", "then by exclusion lists, a list before any that it begins", variable by variable from the first
+pub exclusion-order : (p x y : List (List ℕ)) (q u v : List ℕ) (a b : ℕ) → a < b
+    → lex (lex compare) (p ++ ((q ++ (a ∷ u)) ∷ x)) (p ++ ((q ++ (b ∷ v)) ∷ y)) ≡ Ordering·lt
+exclusion-order p x y q u v a b h =
+    first-differing (lex-order compare-order) p x y (q ++ (a ∷ u)) (q ++ (b ∷ v)) (first-differing compare-order q u v a b (lt-compare a b h))
+
+pub shorter-first : (p x y : List (List ℕ)) (q v : List ℕ) (b : ℕ) → lex (lex compare) (p ++ (q ∷ x)) (p ++ ((q ++ (b ∷ v)) ∷ y)) ≡ Ordering·lt
+shorter-first p x y q v b = first-differing (lex-order compare-order) p x y q (q ++ (b ∷ v)) (begun-before compare-order q v b)

@@ -1,9 +1,10 @@
 -- The matcher's constraint of a symbol on an event (demands, two unequal ones on a variable make it false) says of a valuation what the
 -- declarative `holds` says of it. A wrong `compatible`, `demandsOf` or `constraintOf` is refused here.
-use mathlib.Core.Path.{_≡_, refl, sym, ap, ap₂, _∙_}
+use mathlib.Core.Path.{_≡_, refl, sym, ap, ap₂, subst, _∙_}
 use mathlib.Core.Bool.{Bool, true, false, cond, not, _&&_, _||_, false≢true}
 use mathlib.Core.List.{List, [], _∷_}
-use Prim.Native.Nat.{ℕ, suc}
+use mathlib.Core.Logic.{_↔_}
+use Prim.Native.Nat.{ℕ, zero, suc, _<_}
 use native.Mathlib.Omega.{arith}
 use lib.Dec.{eqb}
 use lib.ListN.{length, getD}
@@ -11,7 +12,7 @@ use borrow.Author.Tests.{eqb-true, eq-eqb, ne-eqb}
 use Rattle.laws.specs.Lists.{all}
 use Rattle.laws.proofs.Lists.{same-test, all-of, all-at, and-true-split}
 use Rattle.meaning.specs.Events.{Parameter, ignored, names, Symbol, Event, Demand, never, demands, matches, demandsOf, compatible, consistent}
-use Rattle.meaning.specs.Events.{constraintOf, Valuation, agrees, satisfies, equalAll, holds}
+use Rattle.meaning.specs.Events.{constraintOf, Valuation, agrees, satisfies, equalAt, equalAll, holds}
 
 -- demands that one valuation meets are not unequal on a variable
 met-compatible : (σ : Valuation) (c d : Demand) → agrees σ c ≡ true → agrees σ d ≡ true → compatible c d ≡ true
@@ -69,3 +70,46 @@ holds-satisfies s e σ =
     go true true h = refl
     go true false h = same-test (all (agrees σ) ds) false (λ g. absurd (false≢true (h g))) (λ g. absurd (false≢true g))
     go false b h = refl
+
+-- what `equalAll` asks, in its own words: as many arguments as places, and the value of each bound place's variable is its argument
+equal-words : (σ : Valuation) (ps : List Parameter) (xs : List ℕ)
+    → (equalAll σ ps xs ≡ true)
+    ↔ ((length ps ≡ length xs) × ((i v : ℕ) → i < length ps → getD ps i ignored ≡ names v → getD σ v 0 ≡ getD xs i 0))
+equal-words σ [] [] = (λ _. (refl, λ i v h e. absurd (omega (arith, h))), λ _. refl)
+equal-words σ [] (x ∷ xs) = (λ h. absurd (false≢true h), λ r. absurd (omega (arith, r .0)))
+equal-words σ (p ∷ ps) [] = (λ h. absurd (false≢true h), λ r. absurd (omega (arith, r .0)))
+equal-words σ (p ∷ ps) (x ∷ xs) =
+    let ih = equal-words σ ps xs in (
+      λ h. let (a, b) = and-true-split (equalAt σ p x) (equalAll σ ps xs) h in
+          let r = ih .0 b in
+          (ap suc (r .0), λ i v k e. here p a r i v k e),
+      λ r. ap₂ _&&_ (there p r) (ih .1 (omega (arith, r .0), λ i v k e. r .1 (suc i) v (omega (arith, k)) e)),
+    )
+  where
+    place : (q : Parameter) (v : ℕ) → equalAt σ q x ≡ true → q ≡ names v → getD σ v 0 ≡ x
+    place q v a e = eqb-true (getD σ v 0) x (subst (λ z. equalAt σ z x ≡ true) e a)
+
+    here : (q : Parameter) → equalAt σ q x ≡ true
+        → ((length ps ≡ length xs) × ((i v : ℕ) → i < length ps → getD ps i ignored ≡ names v → getD σ v 0 ≡ getD xs i 0))
+        → (i v : ℕ) → i < suc (length ps) → getD (q ∷ ps) i ignored ≡ names v → getD σ v 0 ≡ getD (x ∷ xs) i 0
+    here q a r zero v k e = place q v a e
+    here q a r (suc i) v k e = r .1 i v (omega (arith, k)) e
+
+    there : (q : Parameter)
+        → ((suc (length ps) ≡ suc (length xs)) × ((i v : ℕ) → i < suc (length ps) → getD (q ∷ ps) i ignored ≡ names v → getD σ v 0 ≡ getD (x ∷ xs) i 0))
+        → equalAt σ q x ≡ true
+    there ignored r = refl
+    there (names v) r = eq-eqb (getD σ v 0) x (r .1 0 v (omega arith) refl)
+
+-- "A symbol matches an event when the kinds are equal and the event's argument count equals the symbol's. Its constraint is then 'variable equals
+-- argument' for each bound place", of every symbol, one without ARGS too
+pub holds-words : (s : Symbol) (e : Event) (σ : Valuation)
+    → (holds s e σ ≡ true)
+    ↔ ((s .kind ≡ e .kind) × (length (s .parameters) ≡ length (e .args))
+    × ((i v : ℕ) → i < length (s .parameters) → getD (s .parameters) i ignored ≡ names v → getD σ v 0 ≡ getD (e .args) i 0))
+unfolding holds
+holds-words s e σ =
+    let w = equal-words σ (s .parameters) (e .args) in (
+      λ h. let (a, b) = and-true-split (eqb (s .kind) (e .kind)) _ h in let r = w .0 b in (eqb-true _ _ a, r .0, r .1),
+      λ (a, b, c). ap₂ _&&_ (eq-eqb (s .kind) (e .kind) a) (w .1 (b, c)),
+    )
