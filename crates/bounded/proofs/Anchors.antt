@@ -101,6 +101,14 @@ pub sound-four : map (λ D. soundPiece (book 4 [] (0 ∷ []) 0 0 [] false) (held
 unfolding soundPiece
 sound-four = refl
 
+-- a state is judged also where the book has no variables
+pub sound-none : map (soundState (book 0 (symbol 1 [] ∷ []) (0 ∷ 0 ∷ []) 2 4 (4 ∷ 0 ∷ []) false))
+    (state 1 (heldAt 1 [] ∷ heldAt 2 [] ∷ []) ∷ state 1 (heldAt 1 [] ∷ heldAt 1 [] ∷ []) ∷ state 1 (heldAt 2 [] ∷ heldAt 1 [] ∷ [])
+    ∷ state 1 (heldAt 0 [] ∷ []) ∷ state 1 (heldAt 3 [] ∷ []) ∷ state 1000001 [] ∷ [])
+    ≡ true ∷ replicate 5 false
+unfolding soundState soundHeld soundPiece compareDisjuncts
+sound-none = refl
+
 -- "No room, exactly", at 128: one disjunct ends and one comes; a step set of 128; 129 meetings that are one disjunct; 129 exclusions that are 86
 -- disjuncts; four exclusions at each of two variables. Then: a step set of 129, and a seventh exclusion, at a position that nothing follows.
 abbrev two : ℕ → List Symbol → Book
