@@ -1,2 +1,4 @@
--- Samples: texts with their readings, computed from the definitions alone. The theorems about texts are in the crate parsing.
+-- Samples: texts with their readings, computed from the definitions alone. Grammar: the rules of the grammar of patterns with their trees. The
+-- theorems about texts are in the crate parsing.
 pub mod Samples
+pub mod Grammar
