@@ -1,5 +1,5 @@
 -- The theorem `refused` (Refused): the reader answers the least fault of a text; faults and rules are defined in the crate fault. For
--- readers of the contract of `read`, and for the crate examples. Stands (tokens that begin a pattern), Spots (places), Sites (which
+-- readers of the contract of `read`, and for the crate examples. Judged: what a word of the lines is answered, sentence by sentence. Stands (tokens that begin a pattern), Spots (places), Sites (which
 -- faults can stand at a place). The lines before the pattern: HeaderPrefix (the prefixes that the reader accepts, and where it may stop),
 -- Gaps and HeaderCourse (its course reads them), WordLaws and WordFaults (what may be wrong with a word), HeaderFacts (what is known where
 -- a prefix ends), HeaderFaults. The pattern, likewise: PatternPrefix, PatternCourse, TokenPlaces (tokens by their places), PatternSites
@@ -21,3 +21,4 @@ pub mod PatternSites
 pub mod PatternFacts
 pub mod PatternFaults
 pub mod Refused
+pub mod Judged

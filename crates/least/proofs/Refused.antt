@@ -22,11 +22,8 @@ use Rattle.parsing.proofs.Outcomes.{Whole, known, patternOf, bindsAll, outcome}
 use Rattle.book.specs.Answers.{numberOf, placeOf}
 use Rattle.book.specs.Books.{reading}
 use Rattle.book.proofs.Bench as Bench
-use Rattle.fault.specs.Places.{Word, Header}
-use Rattle.fault.specs.Fault.{WordFault, fifthVariable, fifthArgument, Fault, word, Least, NoFault}
+use Rattle.fault.specs.Fault.{Fault, Least, NoFault}
 use Rattle.fault.specs.Rules.{AdmitsEmpty, LeavesUnbound, Rules}
-use Rattle.least.proofs.Sites.{Clean, least-of, word-fault}
-use Rattle.least.proofs.WordFaults.{excess-wrong}
 use Rattle.least.proofs.HeaderPrefix.{Ready}
 use Rattle.least.proofs.HeaderCourse.{lines-stop, lines-matched}
 use Rattle.least.proofs.HeaderFaults.{header-stop-least, matched-ready}
@@ -205,12 +202,3 @@ module _ (s : Bytes) (bytes : isBytes s ≡ true) where
     first = λ d r f h. Accepted.words-place s d r f h;
     none = none-rule;
   })
-
-  -- "the first excess word, of any form, carries 3": a fifth variable or a fifth argument, before which no fault stands, whatever its bytes
-  pub excess : {k i p : ℕ} → length s ≤ textLimit → Word s k i p → Header s k → ((k ≡ 0) × (i ≡ 5)) ⊎ ((1 ≤ k) × (i ≡ 7)) → Clean s p
-      → (numberOf (reading s .answer) ≡ 3) × (placeOf (reading s .answer) ≡ p)
-  excess {k} {i} {p} short w h x clean =
-      let o = ap (λ y. y .line) (w .spot) in
-      let f : WordFault s k i p 3 = ⊎-elim (λ e. fifthVariable (e .0) (e .1)) (λ e. fifthArgument (e .0) (e .1)) x in
-      let l = least-of s p 3 clean (word w h f) λ m g. let e = excess-wrong x (word-fault s k p m o h g i w) in omega arith in
-      refused .fault 3 p (omega arith) (omega arith) .1 (short, l)
