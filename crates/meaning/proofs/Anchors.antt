@@ -135,6 +135,12 @@ pub counts-equal : map (λ xs. holds (record { kind = 1; parameters = names 0 �
 unfolding holds
 counts-equal = refl
 
+-- the same of a symbol without ARGS: no argument, and none else
+pub none-given : map (λ xs. holds (record { kind = 1; parameters = [] }) (record { kind = 1; args = xs }) []) ([] ∷ (0 ∷ []) ∷ (7 ∷ 8 ∷ []) ∷ [])
+    ≡ true ∷ false ∷ false ∷ []
+unfolding holds
+none-given = refl
+
 -- "then by values …, then by exclusion lists", for all disjuncts: the values decide, and where they are the same the exclusion lists do
 pub values-first : (D E : Disjunct) → lex compare (map valueKey D) (map valueKey E) ≡ Ordering·lt → compareDisjuncts D E ≡ Ordering·lt
 unfolding compareDisjuncts
