@@ -1,2 +1,3 @@
--- What a reading hands back, in terms of the stated form.
+-- Bench: what a reading hands back, in terms of the stated form. Words: the book as the matcher sees it, in words.
+pub mod Words
 pub mod Bench

@@ -4,7 +4,7 @@ use mathlib.Core.Path.{_≡_, refl, sym, ap, _∙_}
 use mathlib.Core.Bool.{Bool, true, false, cond, not, _&&_, _||_, and-false, or-true, false≢true}
 use mathlib.Core.List.{List, [], _∷_, map, List·Memᴰ}
 use mathlib.Core.Logic.{_↔_, Iff·trans, _⊎_, inl, inr, ⊎-elim}
-use Prim.Native.Nat.{ℕ, suc, _*_, _≤_, _<_}
+use Prim.Native.Nat.{ℕ, suc, _+_, _*_, _≤_, _<_}
 use native.Mathlib.Omega.{arith}
 use borrow.Author.Tests.{eqb-true, eqb-false, eq-eqb, ltb-true, lt-ltb, not-true}
 use lib.Dec.{eqb, leb}
@@ -268,6 +268,20 @@ nine-rules b s bytes buffer place t =
         → Unsound b s bytes
     back (inl h) = ⊎-elim unsoundBook unsoundState (and-false-split (bookSound b) (stateSound b s) h)
     back (inr (f, (q, m, j, (D, n, y)))) = leftFree f q m j D n y
+
+-- 10, 11 and 13 in their own words: "event record out of form, or not 20 bytes"; "1,000,000 events already accepted"; "row buffer too short, or start place
+-- beyond it", which with no rows is just a place beyond the end; and nothing of these at 0
+pub other-rules : (b : Book) (s : State) (bytes buffer : Bytes) (place : ℕ) (t : Tally)
+    → let n = numberOf (taken b s bytes buffer place t .answer) in
+    let held = heldFirst (b .variables) s in
+    let few = length (rows (viewBook b) held (eventIn bytes)) in
+    let Room : Type 0 = Broken (viewBook b) held (eventIn bytes) → ⊥ in
+    ((n ≡ 10) ↔ ((Unsound b s bytes → ⊥) × (isRecord bytes ≡ false)))
+    × ((n ≡ 11) ↔ ((Unsound b s bytes → ⊥) × (isRecord bytes ≡ false → ⊥) × (s .number ≡ 1000000)))
+    × ((n ≡ 13) ↔ ((Unsound b s bytes → ⊥) × (isRecord bytes ≡ false → ⊥) × (s .number ≡ 1000000 → ⊥) × Room × (length buffer < place + 24 * few)))
+    × ((n ≡ 0) ↔ ((Unsound b s bytes → ⊥) × (isRecord bytes ≡ false → ⊥) × (s .number ≡ 1000000 → ⊥) × Room × (length buffer < place + 24 * few → ⊥)))
+other-rules b s bytes buffer place t =
+    let f = first-failing b s bytes buffer place t in (f .ten, f .eleven, f .thirteen, f .zero)
 
 -- the four rules written out, for the proof below; its statement has them in its own words
 module _ (b : Plain.Book) (held : List Held) (e : Event) where

@@ -1,7 +1,7 @@
-// The listing of nine pairs of files, each below its heading, for the gate to run it on what document 01's sample does not have.
+// The listing of eleven pairs of files, each below its heading, for the gate to run it on what document 01's sample does not have.
 fn list(heading: &[u8], book: &[u8], events: &[u8]) {
     io::write_all(1, heading);
-    printing::print_files(book, events);
+    printing::print_files(book, events, 0);
 }
 
 // - A refused book, `match a*` of document 01, 7 at 23, with an event, which must print nothing.
@@ -14,6 +14,9 @@ fn list(heading: &[u8], book: &[u8], events: &[u8]) {
 // - Four variables: 128 disjuncts, a load that has no room, and 25 drops with 128 rows each, in their order, over what is gathered.
 // - Three variables and 400 rows to one event, 9,600 bytes.
 // - A book of no bytes; no records.
+// - 14 x 128 rows to one event, 43,008 bytes of the 65,536 that are lent, with values of ten digits: one row is 48 bytes long, and one begins where
+//   65,489 bytes are gathered.
+// - B1 after 999,998 accepted events: two more are accepted, then a record out of form is 10, one in form 11.
 fn main() {
     list(b"refused\n", b"refused.txt", b"refused.events");
     list(b"short\n", b"short.txt", b"short.events");
@@ -24,4 +27,7 @@ fn main() {
     list(b"wide\n", b"wide.txt", b"wide.events");
     list(b"empty\n", b"empty.txt", b"short.events");
     list(b"nothing\n", b"short.txt", b"empty.events");
+    list(b"most\n", b"most.txt", b"most.events");
+    io::write_all(1, b"late\n");
+    printing::print_files(b"short.txt", b"late.events", 999998);
 }

@@ -130,8 +130,9 @@ fn put_line(out: &mut [u8], at: usize, number: u64, answer: usize, count: usize)
 }
 
 // All records of an open file, a last short one too: for each its line and its rows. A proved loop has to end, and nothing says that the
-// file does, so it also ends at the largest 64-bit number of a record, which no file reaches.
-fn list(book: Book, events: i32) {
+// file does, so it also ends at the largest 64-bit number of a record, which no file reaches. So many events were accepted before: none,
+// but where `listings` shows what comes after 1,000,000.
+fn list(book: Book, events: i32, before: u32) {
     let mut bytes_space = [0u8; RECORD];
     let mut rows_space = io::large_buffer();
     let mut out_space = io::large_buffer();
@@ -139,8 +140,9 @@ fn list(book: Book, events: i32) {
     let rows: &mut [u8] = &mut rows_space;
     let out: &mut [u8] = &mut out_space;
     let mut state = watch::fresh();
+    state.number = before;
     let mut tally = Tally::none();
-    let mut number: u64 = 0;
+    let mut number = before as u64;
     let mut at: usize = 0;
     let mut size = io::read_full(events, bytes);
     while number < u64::MAX && 0 < size {
@@ -167,7 +169,7 @@ fn print_refused(number: usize, place: usize) {
 
 // The whole of it: the listing of the book in the named file, on the records of an open one. No contract can say what is read or
 // written: proved are safety and that it ends.
-fn print_open(book: &[u8], events: i32) {
+fn print_open(book: &[u8], events: i32, before: u32) {
     let fd = os::open_read(book);
     if fd < 0 {
         os::fail(book);
@@ -181,7 +183,7 @@ fn print_open(book: &[u8], events: i32) {
     let number = book::number_of(a);
     if number == 0 {
         let b = r.book;
-        list(b, events);
+        list(b, events, before);
         return;
     }
     print_refused(number, book::place_of(a));
@@ -189,16 +191,16 @@ fn print_open(book: &[u8], events: i32) {
 
 // The listing of `book.txt`, on the records of standard input.
 pub fn print() {
-    print_open(b"book.txt", 0);
+    print_open(b"book.txt", 0, 0);
 }
 
-// The listing of a book's file, on the records of another.
-pub fn print_files(book: &[u8], events: &[u8]) {
+// The listing of a book's file, on the records of another, after so many accepted events in the state that holds nothing.
+pub fn print_files(book: &[u8], events: &[u8], before: u32) {
     let fd = os::open_read(events);
     if fd < 0 {
         os::fail(events);
         return;
     }
-    print_open(book, fd);
+    print_open(book, fd, before);
     libc::close(fd);
 }

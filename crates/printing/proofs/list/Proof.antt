@@ -7,10 +7,10 @@ use Rattle.printing.proofs.list.Statement.{statement}
 use Rattle.printing.proofs.list.Tie as tie
 
 abbrev Inv-loop : tie.InvT-loop
-Inv-loop book events bytes₀ rows₀ out₀ state₀ tally₀ number₀ at₀ size₀ bytes rows out state tally number at size = Counts size bytes
+Inv-loop book events before bytes₀ rows₀ out₀ state₀ tally₀ number₀ at₀ size₀ bytes rows out state tally number at size = Counts size bytes
 
 abbrev μ-loop : tie.MeasureT-loop
-μ-loop book events bytes₀ rows₀ out₀ state₀ tally₀ number₀ at₀ size₀ bytes rows out state tally number at size = 18446744073709551615 - number
+μ-loop book events before bytes₀ rows₀ out₀ state₀ tally₀ number₀ at₀ size₀ bytes rows out state tally number at size = 18446744073709551615 - number
 
 large-buffer-requires : tie.Need-large-buffer-requires Inv-loop μ-loop
 large-buffer-requires c κs = search needs

@@ -1,0 +1,34 @@
+-- A book as the matcher sees it, in words, of any struct: what its counts reach, and nothing beyond. For the buyer, beside `nine-rules`,
+-- `twelve-rules` and `accepted-leaves`, which speak by `viewBook`.
+use mathlib.Core.Path.{_≡_, refl}
+use mathlib.Core.List.{List, map}
+use Prim.Native.Nat.{ℕ}
+use lib.ListN.{take}
+use Rattle.meaning.specs.Events.{ignored, names}
+use Rattle.table.specs.declared.Parameter.{Parameter}
+use Rattle.table.specs.Tables.{viewParameter, viewSymbol}
+use Rattle.book.specs.declared.Book.{Book}
+use Rattle.book.specs.Books.{viewBook}
+
+-- "each a declared variable or `_`": tag 1 and the variable's number, tag 0
+pub parameter-read : (n : ℕ) → (viewParameter (record { tag = 0; number = n }) ≡ ignored) × (viewParameter (record { tag = 1; number = n }) ≡ names n)
+parameter-read n = (refl, refl)
+
+pub symbol-read : (k n : ℕ) (ps : List Parameter)
+    → viewSymbol (record { kind = k; count = n; parameters = ps }) ≡ record { kind = k; parameters = map viewParameter (take n ps) }
+unfolding viewSymbol
+symbol-read k n ps = refl
+
+pub book-read : (b : Book)
+    → viewBook b
+    ≡ record {
+      variables = b .variables;
+      symbols = map viewSymbol (take (b .symbols) (b .table));
+      occurrences = take (b .positions) (b .occurrences);
+      begins = b .begins;
+      ends = b .ends;
+      follows = take (b .positions) (b .follows);
+      empty = b .empty;
+    }
+unfolding viewBook
+book-read b = refl

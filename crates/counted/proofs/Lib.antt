@@ -1,0 +1,2 @@
+-- What the call with a lent tally hands back (Words).
+pub mod Words

@@ -1,0 +1,53 @@
+-- A state as it is stored and as it is read back, in words, of any state: what is held stands in the first places, in its order, with its values and
+-- its exclusions; what no count reaches is zero or free. For the buyer, beside `accepted-leaves` and `fresh-state`.
+use mathlib.Core.Path.{_≡_, refl}
+use mathlib.Core.Bool.{true, false}
+use mathlib.Core.List.{List, [], _++_, map}
+use Prim.Native.Nat.{ℕ, _-_}
+use lib.ListN.{length, take, replicate}
+use Rattle.laws.specs.Parts.{pad}
+use Rattle.meaning.specs.Labels as Labels
+use Rattle.meaning.specs.Labels.{bound, free}
+use Rattle.bounded.specs.Bounded.{heldOf}
+use Rattle.slot.specs.declared.Slot.{Slot}
+use Rattle.slot.specs.Slots.{viewSlot, slotOf}
+use Rattle.disjunct.specs.declared.Disjunct.{Disjunct}
+use Rattle.disjunct.specs.Disjuncts.{viewDisjunct, disjunctOf}
+use Rattle.state.specs.declared.State.{State}
+use Rattle.state.specs.States.{stateOf, heldFirst}
+
+-- one variable: its value and no exclusion, or its exclusions from the first on
+pub slot-stored : (a : ℕ) (xs : List ℕ)
+    → (slotOf (bound a) ≡ record { bound = true; value = a; count = 0; excluded = replicate 6 0 })
+    × (slotOf (free xs) ≡ record { bound = false; value = 0; count = length xs; excluded = xs ++ replicate (6 - length xs) 0 })
+unfolding slotOf pad
+slot-stored a xs = (refl, refl)
+
+pub slot-read : (a n : ℕ) (xs : List ℕ)
+    → (viewSlot (record { bound = true; value = a; count = n; excluded = xs }) ≡ bound a)
+    × (viewSlot (record { bound = false; value = a; count = n; excluded = xs }) ≡ free (take n xs))
+unfolding viewSlot
+slot-read a n xs = (refl, refl)
+
+abbrev vacant : List Slot
+vacant = replicate 4 (record { bound = false; value = 0; count = 0; excluded = replicate 6 0 })
+
+-- "Held disjuncts stand by position, …"; "Places of disjuncts that end are used again"
+pub state-stored : (s : Labels.State)
+    → let ps = map (λ h. h .position) (s .held) in
+    let ds : List Disjunct =
+    map (λ h. record { vars = map slotOf (h .disjunct) ++ replicate (4 - length (map slotOf (h .disjunct))) (slotOf (free [])) }) (s .held) in
+    stateOf s
+    ≡ record {
+      number = s .number;
+      count = length (s .held);
+      positions = ps ++ replicate (128 - length ps) 0;
+      pool = ds ++ replicate (128 - length ds) (record { vars = vacant });
+    }
+unfolding stateOf disjunctOf slotOf pad
+state-stored s = refl
+
+pub state-read : (n : ℕ) (s : State)
+    → heldFirst n s ≡ heldOf (take (s .count) (s .positions)) (map (λ d. take n (map viewSlot (d .vars))) (take (s .count) (s .pool)))
+unfolding heldFirst viewDisjunct
+state-read n s = refl
