@@ -13,16 +13,19 @@ use Rattle.laws.specs.Lists.{any, all, keep, numbers}
 use Rattle.laws.specs.Parts.{pad}
 use Rattle.laws.proofs.Lists.{and-true-split, all-at, all-of, all-map, length-numbers, either}
 use Rattle.laws.proofs.Parts.{pad-take}
-use Rattle.pattern.specs.Regex.{Regex, In}
+use Rattle.pattern.specs.Regex.{Regex, In, nullable}
 use Rattle.pattern.specs.Positions as Positions
 use Rattle.pattern.specs.Positions.{occurrenceLimit}
 use Rattle.pattern.proofs.Masks.{symbols-length}
+use Rattle.meaning.specs.Events as Events
 use Rattle.meaning.specs.Events.{Symbol}
+use Rattle.meaning.specs.Meaning.{noSymbol}
 use Rattle.meaning.specs.Book as Plain
 use Rattle.meaning.specs.Book.{soundSymbol}
 use Rattle.automaton.proofs.Counts.{begin-count, end-count}
 use Rattle.automaton.proofs.Kept.{proper-sound}
 use Rattle.form.specs.Text.{Bytes, isName, matchWord, SymbolLine, Declarations, header, tracematchOf, Span, variableSpans, symbolSpans, spans}
+use Rattle.form.specs.Text as Text
 use Rattle.form.specs.Limits.{textLimit, symbolLimit, parameterLimit}
 use Rattle.form.specs.Form.{Shape, Form, symbolNames, allNames, binds}
 use Rattle.form.specs.Scan.{run, isSpace}
@@ -32,7 +35,9 @@ use Rattle.parsing.proofs.Accepted as Accepted
 use Rattle.parsing.proofs.Header.{header-names}
 use Rattle.parsing.proofs.Outcomes.{known}
 use Rattle.parsing.proofs.Shapes.{shape-found}
-use Rattle.table.specs.Tables.{namesLimit, tableOf as heldTable, symbolOf, viewTable, nameOf, noName, spanOf, inside}
+use Rattle.table.specs.Tables.{namesLimit, tableOf as heldTable, parameterOf, symbolOf, viewTable, nameOf, noName, spanOf, inside}
+use Rattle.table.specs.declared.Parameter as HeldParameter
+use Rattle.table.specs.declared.Symbol as HeldSymbol
 use Rattle.table.proofs.Codes.{Fits, view-table}
 use Rattle.book.specs.Answers.{numberOf, placeOf, answerOf}
 use Rattle.book.specs.Books.{emptyBook, readingFor, bookFor, reading, viewBook, namePlace, nameBytes}
@@ -108,6 +113,30 @@ few-parameters : (v : ℕ) (l : List Symbol) → all (soundSymbol v) l ≡ true 
 unfolding soundSymbol
 few-parameters v l h = all-of _ l λ y m. simp and-eq-true-iff at (all-at (soundSymbol v) h m) .0 .1
 
+-- an argument place and a `sym` line as the book holds them, written out
+abbrev coded : Events.Parameter → HeldParameter.Parameter
+coded Events.Parameter.ignored = record { tag = 0; number = 0 }
+coded (Events.Parameter.names v) = record { tag = 1; number = v }
+
+abbrev lined : SymbolLine → HeldSymbol.Symbol
+lined l = record { kind = l .kind; count = length (l .parameters); parameters = pad 4 (record { tag = 0; number = 0 }) (map coded (l .parameters)) }
+
+parameters-held : (ps : List Events.Parameter) → map parameterOf ps ≡ map coded ps
+parameters-held [] = refl
+parameters-held (Events.Parameter.ignored ∷ ps) = ap (λ l. record { tag = 0; number = 0 } ∷ l) (parameters-held ps)
+parameters-held (Events.Parameter.names v ∷ ps) = ap (λ l. record { tag = 1; number = v } ∷ l) (parameters-held ps)
+
+lines-held : (ls : List SymbolLine) → map symbolOf (map Text.symbolOf ls) ≡ map lined ls
+unfolding symbolOf
+lines-held [] = refl
+lines-held (l ∷ ls) =
+    ap₂ _∷_ (ap (λ ps. record { kind = l .kind; count = length (l .parameters); parameters = pad 4 (record { tag = 0; number = 0 }) ps })
+    (parameters-held (l .parameters))) (lines-held ls)
+
+no-symbol : symbolOf noSymbol ≡ record { kind = 0; count = 0; parameters = replicate 4 (record { tag = 0; number = 0 }) }
+unfolding symbolOf pad
+no-symbol = refl
+
 module _ (s : Bytes) where
   -- the table of a text in form
   table-view : (d : Declarations) (r : Regex) → Form s d r → (length (declaredTable d .variables) ≡ length (d .variables))
@@ -171,6 +200,39 @@ module _ (s : Bytes) where
       ↔ ((d : Declarations) × (r : Regex) × Shape s d r × (In r [] → ⊥)
       × ((v : ℕ) × (w : List ℕ) × (v < length (d .variables)) × In r w × (any (binds d v) w ≡ false)))
   eight = rw (answer-number s) (Accepted.eight s)
+
+  -- every field of the book from the declarations and the tree themselves, every array with its padding: "one bit to a position", positions from 1, an
+  -- argument place with its variable's number or ignored; the names are `book-names`. What the masks say of words is `positions` (crate pattern).
+  pub held : (d : Declarations) (r : Regex) → Form s d r → let b = reading s .book in
+      (b .variables ≡ length (d .variables)) × (b .symbols ≡ length (d .symbols))
+      × (b .table ≡ pad 16 (record { kind = 0; count = 0; parameters = replicate 4 (record { tag = 0; number = 0 }) }) (map lined (d .symbols)))
+      × (b .positions ≡ Positions.size r) × (b .occurrences ≡ pad 31 0 (Positions.symbols r))
+      × (b .begins ≡ Positions.beginning r 1) × (b .ends ≡ Positions.ending r 1)
+      × (b .follows ≡ pad 31 0 (map (Positions.following r 1) (numbers 1 (Positions.size r)))) × (b .empty ≡ nullable r)
+  unfolding readingFor bookFor heldTable symbolOf
+  held d r f =
+      let w = ap (λ o. readingFor o .book) (Accepted.fields s d r f) in
+      let t : map symbolOf (declaredTable d .table) ≡ map lined (d .symbols) = lines-held (d .symbols) in (
+        ap (λ b. b .variables) w ∙ table-view d r f .0,
+        ap (λ b. b .symbols) w ∙ length-map (d .symbols) _,
+        ap (λ b. b .table) w ∙ ap₂ (λ z l. pad 16 z l) no-symbol t,
+        ap (λ b. b .positions) w,
+        ap (λ b. b .occurrences) w,
+        ap (λ b. b .begins) w,
+        ap (λ b. b .ends) w,
+        ap (λ b. b .follows) w,
+        ap (λ b. b .empty) w,
+      )
+
+-- the tracematch that the theorems about runs speak of: of the text's own tree, and its symbols as the lines have them
+pub declared-tracematch : (d : Declarations) (r : Regex)
+    → tracematchOf d r
+    ≡ record {
+      variables = length (d .variables);
+      symbols = map (λ l. record { kind = l .kind; parameters = l .parameters }) (d .symbols);
+      pattern = r;
+    }
+declared-tracematch d r = refl
 
 -- a refused text has no names
 pub refused-name : (s : Bytes) (n : ℕ) → (numberOf (reading s .answer) ≡ 0 → ⊥) → nameBytes s n ≡ []

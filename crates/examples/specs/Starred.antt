@@ -207,4 +207,9 @@ table =
     -- "`vars d s` with the same symbol, `match a`: 8 at 25." "Empty book: 2 at 0."
     ∷ reads "vars d s\nsym a 1 d\nmatch a\n" 8 25
     ∷ reads "" 2 0
+    -- ours: what may be empty is repeated like anything else: b a a a b and b a a b are words of these patterns
+    ∷ runs "vars\nsym a 1\nsym b 2\nmatch b (a? a?)* b\n"
+    (line (sent 2 []) 0 [] ∷ line (sent 1 []) 0 [] ∷ line (sent 1 []) 0 [] ∷ line (sent 1 []) 0 [] ∷ line (sent 2 []) 0 (row 5 [] ∷ []) ∷ [])
+    ∷ runs "vars\nsym a 1\nsym b 2\nmatch b a?+ b\n"
+    (line (sent 2 []) 0 [] ∷ line (sent 1 []) 0 [] ∷ line (sent 1 []) 0 [] ∷ line (sent 2 []) 0 (row 4 [] ∷ []) ∷ [])
     ∷ []

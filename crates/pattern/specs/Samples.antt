@@ -94,6 +94,10 @@ table =
     -- (a?)+ b, and b (a*)+: what is repeated has the empty word
     ∷ sample (cat (plus (opt a)) b) false (1 ∷ []) (1 ∷ 2 ∷ []) (2 ∷ []) (0 ∷ 1 ∷ []) ((1 ∷ 2 ∷ []) ∷ [] ∷ [])
     ∷ sample (cat b (plus (star a))) false (1 ∷ []) (1 ∷ []) (1 ∷ 2 ∷ []) (1 ∷ 0 ∷ []) ((2 ∷ []) ∷ (2 ∷ []) ∷ [])
+    -- (a?)* b, and (a? b?)* c: what may be empty is repeated too
+    ∷ sample (cat (star (opt a)) b) false (1 ∷ []) (1 ∷ 2 ∷ []) (2 ∷ []) (0 ∷ 1 ∷ []) ((1 ∷ 2 ∷ []) ∷ [] ∷ [])
+    ∷ sample (cat (star (cat (opt a) (opt b))) c) false (2 ∷ []) (1 ∷ 2 ∷ 3 ∷ []) (3 ∷ []) (0 ∷ 1 ∷ 2 ∷ [])
+    ((1 ∷ 2 ∷ 3 ∷ []) ∷ (1 ∷ 2 ∷ 3 ∷ []) ∷ [] ∷ [])
     -- (a | b)*, a? b*, (a+)?
     ∷ sample (star (alt a b)) true [] (1 ∷ 2 ∷ []) (1 ∷ 2 ∷ []) (0 ∷ 1 ∷ []) ((1 ∷ 2 ∷ []) ∷ (1 ∷ 2 ∷ []) ∷ [])
     ∷ sample (cat (opt a) (star b)) true [] (1 ∷ 2 ∷ []) (1 ∷ 2 ∷ []) (0 ∷ 1 ∷ []) ((2 ∷ []) ∷ (2 ∷ []) ∷ [])
