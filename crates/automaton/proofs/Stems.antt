@@ -1,7 +1,7 @@
 -- Where the disjuncts of a new state stem from: members of labels, of sources, of skip sets, and of all new labels.
 use mathlib.Core.Path.{_≡_, refl}
-use mathlib.Core.Bool.{Bool, true, false, cond, not, false≢true}
-use mathlib.Core.List.{List, [], _∷_, map, List·Memᴰ}
+use mathlib.Core.Bool.{Bool, true, false, cond, not, false≢true, true≢false}
+use mathlib.Core.List.{List, [], _∷_, _++_, map, List·Memᴰ}
 use mathlib.Core.List.{List·Memᴰ·head, List·Memᴰ·not-nil, List·Memᴰ·eq-of-singleton, List·Memᴰ·append-cases, Memᴰ·append-left, Memᴰ·append-right}
 use mathlib.Core.Logic.{_↔_, _⊎_, inl, inr, ⊎-map, ⊎-swap, ⊎-elim}
 use Prim.Native.Nat.{ℕ, _-_}
@@ -9,13 +9,16 @@ use lib.Dec.{eqb}
 use lib.ListN.{getD, replicate}
 use borrow.Author.Tests.{eqb-true, eqb-false, ne-eqb}
 use Rattle.laws.specs.Bits.{bit}
-use Rattle.laws.specs.Lists.{keep}
+use Rattle.laws.specs.Lists.{keep, gather}
+use Rattle.laws.specs.Order.{ascending}
 use Rattle.laws.proofs.Lists.{mem-picked}
+use Rattle.laws.proofs.Sets.{setOf-ascending}
 use Rattle.meaning.specs.Events.{Symbol, Event, Demand, Constraint, never, demands, constraintOf}
 use Rattle.meaning.specs.Book.{Book, positions, beginsAt, followsAt}
 use Rattle.meaning.specs.Meaning.{noSymbol}
 use Rattle.meaning.specs.Labels.{Disjunct, free, meets, met, newLabel, freeDisjunct, entryOf, isFree, meetsAll, exclude, skipOne, skipBy, skipThrough}
-use Rattle.meaning.specs.Labels.{Held, labelOf, sources, stepSet, skipSet, newHeld}
+use Rattle.meaning.specs.Labels.{Held, compareDisjuncts, labelOf, sources, stepSet, skipSet, newHeld}
+use Rattle.automaton.proofs.Orders.{disjunct-order}
 use Rattle.automaton.proofs.Members.{skipBy-member, stepSet-member, newLabel-member, newHeld-member}
 
 pub label-held : (held : List Held) (p : ℕ) {D : Disjunct} → List·Memᴰ D (labelOf held p)
@@ -40,6 +43,44 @@ skip-cases (demands ds) D {E} m = go (meetsAll D ds) m
     go : (t : Bool) → List·Memᴰ E (cond t (map (exclude D) (keep isOpen ds)) (D ∷ [])) → (E ≡ D) ⊎ ((d : Demand) × List·Memᴰ d ds × (E ≡ exclude D d))
     go true n = let r = mem-picked isOpen (exclude D) E ds .0 n in inr (r .0, r .1, r .3)
     go false n = inl (List·Memᴰ·eq-of-singleton n)
+
+-- "c false, or D met with c false, keeps D. Otherwise D gives one disjunct for each variable of c free in D, with c's value excluded there; none if no
+-- variable of c is free in D.", of any constraint and any disjunct
+pub skip-rule : (c : Constraint) (D E : Disjunct) → List·Memᴰ E (skipOne c D)
+    ↔ (((meets D c ≡ false) × (E ≡ D))
+    ⊎ ((meets D c ≡ true) × ((d : Demand) × List·Memᴰ d (asked c) × (isFree (entryOf D (d .variable)) ≡ true) × (E ≡ exclude D d))))
+skip-rule never D E =
+    (λ m. inl (refl, List·Memᴰ·eq-of-singleton m), λ r. ⊎-elim (λ x. List·Memᴰ·head (x .1)) (λ x. absurd (false≢true (x .0))) r)
+skip-rule (demands ds) D E = go (meetsAll D ds)
+  where
+    isOpen : Demand → Bool
+    isOpen d = isFree (entryOf D (d .variable))
+
+    go : (t : Bool) → List·Memᴰ E (cond t (map (exclude D) (keep isOpen ds)) (D ∷ []))
+        ↔ (((t ≡ false) × (E ≡ D)) ⊎ ((t ≡ true) × ((d : Demand) × List·Memᴰ d ds × (isOpen d ≡ true) × (E ≡ exclude D d))))
+    go true = let p = mem-picked isOpen (exclude D) E ds in
+        (λ m. inr (refl, p .0 m), λ r. ⊎-elim (λ x. absurd (true≢false (x .0))) (λ x. p .1 (x .1)) r)
+    go false = (λ m. inl (refl, List·Memᴰ·eq-of-singleton m), λ r. ⊎-elim (λ x. List·Memᴰ·head (x .1)) (λ x. absurd (false≢true (x .0))) r)
+
+past-rising : (c : Constraint) (l : List Disjunct) → ascending compareDisjuncts (skipBy c l) ≡ true
+unfolding skipBy
+past-rising c l = setOf-ascending disjunct-order (gather (skipOne c) l)
+
+-- "taken through all symbols in declaration order": past each further symbol go the disjuncts that the symbols before it have left, each once
+pub through-rule : (cs : List Constraint) (c : Constraint) (l : List Disjunct)
+    → (skipThrough [] l ≡ l)
+    × ((E : Disjunct) → List·Memᴰ E (skipThrough (cs ++ (c ∷ [])) l) ↔ ((D : Disjunct) × List·Memᴰ D (skipThrough cs l) × List·Memᴰ E (skipOne c D)))
+    × (ascending compareDisjuncts (skipThrough (cs ++ (c ∷ [])) l) ≡ true)
+through-rule cs c l = (refl, past cs l, rising cs l)
+  where
+    past : (cs : List Constraint) (l : List Disjunct) (E : Disjunct)
+        → List·Memᴰ E (skipThrough (cs ++ (c ∷ [])) l) ↔ ((D : Disjunct) × List·Memᴰ D (skipThrough cs l) × List·Memᴰ E (skipOne c D))
+    past [] l E = skipBy-member c l E
+    past (x ∷ cs) l E = past cs (skipBy x l) E
+
+    rising : (cs : List Constraint) (l : List Disjunct) → ascending compareDisjuncts (skipThrough (cs ++ (c ∷ [])) l) ≡ true
+    rising [] l = past-rising c l
+    rising (x ∷ cs) l = rising cs (skipBy x l)
 
 -- what holds of all disjuncts of a set and is kept past each symbol holds of all that come through
 module _ (e : Event) (P : Disjunct → Type 0)

@@ -186,3 +186,30 @@ exclusion-order p x y q u v a b h =
 
 pub shorter-first : (p x y : List (List ℕ)) (q v : List ℕ) (b : ℕ) → lex (lex compare) (p ++ (q ∷ x)) (p ++ ((q ++ (b ∷ v)) ∷ y)) ≡ Ordering·lt
 shorter-first p x y q v b = first-differing (lex-order compare-order) p x y q (q ++ (b ∷ v)) (begun-before compare-order q v b)
+
+-- "taken through all symbols in declaration order": what is held after c(), a(1,7) of `vars d s`, a 1 d s, b 1 d s, c 2, `match c a`. The constraint of b, which
+-- is that of a, meets none of the two disjuncts that a has left, though it met the old label's: each is kept as it is
+pub past-each : heldAfter
+    (record {
+      variables = 2;
+      symbols = record { kind = 1; parameters = names 0 ∷ names 1 ∷ [] } ∷ record { kind = 1; parameters = names 0 ∷ names 1 ∷ [] }
+          ∷ record { kind = 2; parameters = [] } ∷ [];
+      pattern = cat (lit 2) (lit 0);
+    })
+    (Call.event (record { kind = 2; args = [] }) true ∷ Call.event (record { kind = 1; args = 1 ∷ 7 ∷ [] }) true ∷ [])
+    ≡ heldAt 1 (free [] ∷ free (7 ∷ []) ∷ []) ∷ heldAt 1 (free (1 ∷ []) ∷ free [] ∷ []) ∷ []
+unfolding bit join single matches constraintOf bookOf compareDisjuncts skipBy sources stepSet skipSet newLabel newHeld
+past-each = refl
+
+-- "in declaration order": the same with b 1 d _. The constraint of b takes what that of a has left, so one disjunct excludes both values; b first would leave one
+pub in-order : heldAfter
+    (record {
+      variables = 2;
+      symbols = record { kind = 1; parameters = names 0 ∷ names 1 ∷ [] } ∷ record { kind = 1; parameters = names 0 ∷ ignored ∷ [] }
+          ∷ record { kind = 2; parameters = [] } ∷ [];
+      pattern = cat (lit 2) (lit 0);
+    })
+    (Call.event (record { kind = 2; args = [] }) true ∷ Call.event (record { kind = 1; args = 1 ∷ 7 ∷ [] }) true ∷ [])
+    ≡ heldAt 1 (free (1 ∷ []) ∷ free [] ∷ []) ∷ heldAt 1 (free (1 ∷ []) ∷ free (7 ∷ []) ∷ []) ∷ []
+unfolding bit join single matches constraintOf bookOf compareDisjuncts skipBy sources stepSet skipSet newLabel newHeld
+in-order = refl

@@ -2,17 +2,17 @@
 -- declarative `holds` says of it. A wrong `compatible`, `demandsOf` or `constraintOf` is refused here.
 use mathlib.Core.Path.{_≡_, refl, sym, ap, ap₂, subst, _∙_}
 use mathlib.Core.Bool.{Bool, true, false, cond, not, _&&_, _||_, false≢true}
-use mathlib.Core.List.{List, [], _∷_}
+use mathlib.Core.List.{List, [], _∷_, List·Memᴰ}
 use mathlib.Core.Logic.{_↔_}
-use Prim.Native.Nat.{ℕ, zero, suc, _<_}
+use Prim.Native.Nat.{ℕ, zero, suc, _<_, _^_}
 use native.Mathlib.Omega.{arith}
 use lib.Dec.{eqb}
 use lib.ListN.{length, getD}
-use borrow.Author.Tests.{eqb-true, eq-eqb, ne-eqb}
+use borrow.Author.Tests.{eqb-true, eq-eqb, ne-eqb, ltb-true, lt-ltb}
 use Rattle.laws.specs.Lists.{all}
-use Rattle.laws.proofs.Lists.{same-test, all-of, all-at, and-true-split}
+use Rattle.laws.proofs.Lists.{same-test, all-of, all-at, any-found, any-of, and-true-split}
 use Rattle.meaning.specs.Events.{Parameter, ignored, names, Symbol, Event, Demand, never, demands, matches, demandsOf, compatible, consistent}
-use Rattle.meaning.specs.Events.{constraintOf, Valuation, agrees, satisfies, equalAt, equalAll, holds}
+use Rattle.meaning.specs.Events.{constraintOf, Valuation, agrees, satisfies, equalAt, equalAll, holds, concerns, word32, isValuation}
 
 -- demands that one valuation meets are not unequal on a variable
 met-compatible : (σ : Valuation) (c d : Demand) → agrees σ c ≡ true → agrees σ d ≡ true → compatible c d ≡ true
@@ -113,3 +113,17 @@ holds-words s e σ =
       λ h. let (a, b) = and-true-split (eqb (s .kind) (e .kind)) _ h in let r = w .0 b in (eqb-true _ _ a, r .0, r .1),
       λ (a, b, c). ap₂ _&&_ (eq-eqb (s .kind) (e .kind) a) (w .1 (b, c)),
     )
+
+-- "An event concerns a valuation if some symbol's constraint holds under it.": any declared symbol, whether the pattern names it or not
+pub concerns-words : (ss : List Symbol) (e : Event) (σ : Valuation)
+    → (concerns ss e σ ≡ true) ↔ ((s : Symbol) × List·Memᴰ s ss × (holds s e σ ≡ true))
+unfolding concerns
+concerns-words ss e σ = (any-found (λ s. holds s e σ) ss, λ (s, m, h). any-of (λ y. holds y e σ) m h)
+
+-- "A valuation gives each variable a 32-bit number"
+pub valuation-words : (n : ℕ) (σ : Valuation) → (isValuation n σ ≡ true) ↔ ((length σ ≡ n) × ((a : ℕ) → List·Memᴰ a σ → a < 2 ^ 32))
+unfolding isValuation
+valuation-words n σ = (
+  λ h. let (a, b) = and-true-split (eqb (length σ) n) (all word32 σ) h in (eqb-true _ _ a, λ x m. ltb-true x (2 ^ 32) (all-at word32 b m)),
+  λ (a, b). ap₂ _&&_ (eq-eqb (length σ) n a) (all-of word32 σ (λ x m. lt-ltb x (2 ^ 32) (b x m))),
+)
