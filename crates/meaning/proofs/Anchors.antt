@@ -187,8 +187,8 @@ exclusion-order p x y q u v a b h =
 pub shorter-first : (p x y : List (List ℕ)) (q v : List ℕ) (b : ℕ) → lex (lex compare) (p ++ (q ∷ x)) (p ++ ((q ++ (b ∷ v)) ∷ y)) ≡ Ordering·lt
 shorter-first p x y q v b = first-differing (lex-order compare-order) p x y q (q ++ (b ∷ v)) (begun-before compare-order q v b)
 
--- "taken through all symbols in declaration order": what is held after c(), a(1,7) of `vars d s`, a 1 d s, b 1 d s, c 2, `match c a`. The constraint of b, which
--- is that of a, meets none of the two disjuncts that a has left, though it met the old label's: each is kept as it is
+-- "taken through all symbols in declaration order": what is held after c(), a(1,7) of `vars d s`, a 1 d s, b 1 d s, c 2, `match c a`. The constraint of
+-- b, which is that of a, meets none of the two disjuncts that a has left, though it met the old label's: each is kept as it is
 pub past-each : heldAfter
     (record {
       variables = 2;
@@ -201,7 +201,8 @@ pub past-each : heldAfter
 unfolding bit join single matches constraintOf bookOf compareDisjuncts skipBy sources stepSet skipSet newLabel newHeld
 past-each = refl
 
--- "in declaration order": the same with b 1 d _. The constraint of b takes what that of a has left, so one disjunct excludes both values; b first would leave one
+-- "in declaration order": the same with b 1 d _. The constraint of b takes what that of a has left, so one disjunct excludes both values; b first would
+-- leave one
 pub in-order : heldAfter
     (record {
       variables = 2;
