@@ -70,7 +70,8 @@ module _ (b : Book) (held : List Held) (e : Event) where
           (λ m. (refl, ⊎-swap (both .0 m)), λ r. both .1 (⊎-swap (r .1)))
       go false = (λ m. absurd (List·Memᴰ·not-nil m), λ r. absurd (false≢true (r .0)))
 
-  stepSet-ascending : (q : ℕ) → ascending compareDisjuncts (stepSet b held e q) ≡ true
+  -- "The step set of q" is a set: each disjunct stands in it once, whichever sources give it, so that its length is what "exceeds 128" speaks of
+  pub stepSet-ascending : (q : ℕ) → ascending compareDisjuncts (stepSet b held e q) ≡ true
   unfolding stepSet
   stepSet-ascending q = let c = constraintOf (symbolOf b q) e in
       setOf-ascending disjunct-order (map (λ D. met D c) (keep (λ D. meets D c) (sources b held q)))

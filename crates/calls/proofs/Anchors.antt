@@ -32,6 +32,7 @@ use Rattle.sound.specs.Soundness.{symbolCounts, bookCounts, bookSound, slotCoun
 use Rattle.calls.specs.Calls.{freshState, rowsBy, stateBy, leavesFreeBy, roomBy, unsound, outOfForm, tooMany, noRoom, noSpace}
 use Rattle.calls.specs.Calls.{answerTo, taken, bufferAfter}
 use Rattle.calls.specs.Answers.{numberOf}
+use Rattle.calls.specs.declared.EventAnswer.the-variants.{Accepted, Unsound, OutOfForm, TooMany, NoRoom, NoSpace}
 use Rattle.calls.specs.Runs.{Call, event, Made, make, runOf, behindNumber}
 use Rattle.calls.specs.Witness.{text, load, dropped}
 
@@ -103,3 +104,7 @@ room-first = (refl, refl, refl)
 -- "bytes 4 to 23" of the row that begins at 0, and of the one at 30
 pub tail-bytes : (behindNumber 0 (numbers 0 60) ≡ numbers 4 20) × (behindNumber 30 (numbers 0 60) ≡ numbers 34 20)
 tail-bytes = (refl, refl)
+
+-- the numbers of the table of "What a call hands back", case by case
+pub case-numbers : map numberOf (Accepted ∷ Unsound ∷ OutOfForm ∷ TooMany ∷ NoRoom ∷ NoSpace ∷ []) ≡ 0 ∷ 9 ∷ 10 ∷ 11 ∷ 12 ∷ 13 ∷ []
+case-numbers = refl
