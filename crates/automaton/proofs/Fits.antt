@@ -131,7 +131,7 @@ admits-before (z ∷ D) (suc u) zero x y h k = k
 admits-before (z ∷ D) (suc u) (suc v) x y h k = admits-before D u v x y h k
 
 -- so a disjunct that meets demands admits each of them
-meets-admits : (D : Disjunct) {ds : List Demand} {d : Demand} → meetsAll D ds ≡ true → List·Memᴰ d ds
+pub meets-admits : (D : Disjunct) {ds : List Demand} {d : Demand} → meetsAll D ds ≡ true → List·Memᴰ d ds
     → admits (entryOf D (d .variable)) (d .value) ≡ true
 meets-admits D {ds = c ∷ ds} h (List·Memᴰ·head e) =
     rw e (and-true-split (admits (entryOf D (c .variable)) (c .value)) (meetsAll (bind D c) ds) h .0)
