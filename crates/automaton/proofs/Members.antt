@@ -8,6 +8,7 @@ use native.Mathlib.Decide.{ℕ-discrete}
 use native.Mathlib.Omega.{arith}
 use lib.ListN.{length}
 use borrow.Author.Tests.{eq-eqb, ne-eqb}
+use Rattle.laws.specs.Bits.{bit}
 use Rattle.laws.specs.Lists.{keep, gather, numbers}
 use Rattle.laws.specs.Order.{ascending}
 use Rattle.laws.specs.Sets.{insertAll}
@@ -17,7 +18,7 @@ use Rattle.meaning.specs.Events.{Event, Constraint, Valuation, constraintOf}
 use Rattle.meaning.specs.Book.{Book, positions, endsAt, goesOn, symbolOf}
 use Rattle.meaning.specs.Labels.{Disjunct, Held, heldAt, compareDisjuncts, meets, met, skipOne, skipBy, labelOf}
 use Rattle.meaning.specs.Labels.{sources, stepSet, skipSet, newLabel, newHeld}
-use Rattle.meaning.specs.Rows.{compareValuations, valuationOf, rows}
+use Rattle.meaning.specs.Rows.{compareValuations, valueOf, valuationOf, rows}
 use Rattle.automaton.proofs.Orders.{disjunct-order, valuation-order}
 
 pub skipBy-member : (c : Constraint) (l : List Disjunct) (E : Disjunct)
@@ -119,3 +120,13 @@ module _ (b : Book) (held : List Held) (e : Event) where
   pub rows-ascending : ascending compareValuations (rows b held e) ≡ true
   unfolding rows
   rows-ascending = setOf-ascending valuation-order (gather (λ q. map valuationOf (stepSet b held e q)) (keep (endsAt b) (positions b)))
+
+  -- "Rows come from the step sets of ending positions", in no other words than the book's own fields
+  pub row-rule : (σ : Valuation) → List·Memᴰ σ (rows b held e)
+      ↔ ((q : ℕ) × (1 ≤ q) × (q ≤ length (b .occurrences)) × (bit q (b .ends) ≡ true) × ((D : Disjunct) × List·Memᴰ D (stepSet b held e q) × (σ ≡ map valueOf D)))
+  row-rule σ = (
+    λ m. let (q, k, u, r) = rows-member σ .0 m in
+        let (low, high) = mem-numbers q 1 (length (b .occurrences)) .0 k in
+        (q, low, omega arith, u, r),
+    λ (q, low, high, u, r). rows-member σ .1 (q, mem-numbers q 1 (length (b .occurrences)) .1 (low, omega arith), u, r),
+  )

@@ -15,7 +15,10 @@ use Rattle.laws.specs.Lists.{all}
 use Rattle.laws.specs.Order.{isLess, rising, ascending}
 use Rattle.laws.proofs.Lists.{and-true-split, all-at, all-of}
 use Rattle.laws.proofs.Order.{compare-lt, lt-compare, compare-order}
-use Rattle.meaning.specs.Events.{word32}
+use Rattle.meaning.specs.Events.{word32, Event}
+use Rattle.meaning.specs.Book as Plain
+use Rattle.meaning.specs.Rows.{rows, compareValuations}
+use Rattle.automaton.proofs.Members.{rows-ascending}
 use Rattle.meaning.specs.Book.{soundParameter, soundMask}
 use Rattle.meaning.specs.Labels.{bound, free, heldAt, compareHeld, compareDisjuncts}
 use Rattle.meaning.specs.Labels as Labels
@@ -269,3 +272,8 @@ sound-state-rules b s z y h =
 pub positions-first : (p q : ℕ) (D E : Labels.Disjunct)
     → (p < q → compareHeld (heldAt p D) (heldAt q E) ≡ Ordering·lt) × (compareHeld (heldAt p D) (heldAt p E) ≡ compareDisjuncts D E)
 positions-first p q D E = (λ h. rw (lt-compare p q h), rw (compare-order .self p))
+
+-- "once each and in order": each row before the next
+pub rows-apart : (b : Plain.Book) (held : List Labels.Held) (e : Event) (i : ℕ) → let l = rows b held e in
+    suc i < length l → compareValuations (getD l i []) (getD l (suc i) []) ≡ Ordering·lt
+rows-apart b held e = ascending-words compareValuations [] (rows b held e) .0 (rows-ascending b held e)

@@ -3,6 +3,7 @@
 -- as bytes. A text has at most one tree (`unique`), so these are the trees of all patterns; in particular each sign is over all of the item before it.
 use mathlib.Core.Path.{_≡_, refl, sym, ap, ap₂, _∙_}
 use mathlib.Core.List.{List, [], _∷_, _++_, map, append-nil, map-append}
+use mathlib.Core.Logic.{_⊎_, inl, inr}
 use Prim.Native.Nat.{ℕ, suc, _<_}
 use lib.ListN.{length, getD}
 use Rattle.pattern.specs.Regex.{Regex, lit, cat, alt, star, plus, opt}
@@ -62,3 +63,33 @@ from-left (then {ts = ts} {us = us} {r = r} x y) =
 from-left (only x) = from-left x
 from-left (or {ts = ts} {us = us} {r = r} x y) =
     names-append ts (sign 124 ∷ us) ∙ ap₂ _++_ (from-left x) (from-left y) ∙ sym (map-append _ (Positions.symbols r) _)
+
+-- and there is no other rule: what an atom, an item, a sequence and an alternation are made of
+pub only-atoms : {symbols : List Bytes} {d : ℕ} {ts : List Token} {r : Regex} → Phrase symbols atom d ts r
+    → ((a : ℕ) × (a < length symbols) × (ts ≡ name (getD symbols a []) ∷ []) × (r ≡ lit a))
+    ⊎ ((e : ℕ) × (us : List Token) × (d ≡ suc e) × (ts ≡ sign 40 ∷ us ++ (sign 41 ∷ [])) × Phrase symbols alternation e us r)
+only-atoms (symbol {a = a} h) = inl (a, h, refl, refl)
+only-atoms (group {d = e} {ts = us} x) = inr (e, us, refl, refl, x)
+
+pub only-items : {symbols : List Bytes} {d : ℕ} {ts : List Token} {r : Regex} → Phrase symbols item d ts r
+    → Phrase symbols atom d ts r
+    ⊎ ((us : List Token) × (q : Regex) × Phrase symbols item d us q
+    × (((ts ≡ us ++ (sign 42 ∷ [])) × (r ≡ star q)) ⊎ (((ts ≡ us ++ (sign 43 ∷ [])) × (r ≡ plus q)) ⊎ ((ts ≡ us ++ (sign 63 ∷ [])) × (r ≡ opt q)))))
+only-items (plain x) = inl x
+only-items (starred {ts = us} {r = q} x) = inr (us, q, x, inl (refl, refl))
+only-items (plussed {ts = us} {r = q} x) = inr (us, q, x, inr (inl (refl, refl)))
+only-items (optional {ts = us} {r = q} x) = inr (us, q, x, inr (inr (refl, refl)))
+
+pub only-sequences : {symbols : List Bytes} {d : ℕ} {ts : List Token} {r : Regex} → Phrase symbols sequence d ts r
+    → Phrase symbols item d ts r
+    ⊎ ((us : List Token) × (vs : List Token) × (p : Regex) × (q : Regex) × Phrase symbols item d us p × Phrase symbols sequence d vs q
+    × (ts ≡ us ++ vs) × (r ≡ cat p q))
+only-sequences (last x) = inl x
+only-sequences (then {ts = us} {us = vs} {r = p} {s = q} x y) = inr (us, vs, p, q, x, y, refl, refl)
+
+pub only-alternations : {symbols : List Bytes} {d : ℕ} {ts : List Token} {r : Regex} → Phrase symbols alternation d ts r
+    → Phrase symbols sequence d ts r
+    ⊎ ((us : List Token) × (vs : List Token) × (p : Regex) × (q : Regex) × Phrase symbols sequence d us p × Phrase symbols alternation d vs q
+    × (ts ≡ us ++ (sign 124 ∷ vs)) × (r ≡ alt p q))
+only-alternations (only x) = inl x
+only-alternations (or {ts = us} {us = vs} {r = p} {s = q} x y) = inr (us, vs, p, q, x, y, refl, refl)

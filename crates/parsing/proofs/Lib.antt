@@ -2,7 +2,8 @@
 -- form and its reading), Ascii (its bytes), Outcomes (what is known of any reading) and Faults (numbers and places of faults).
 -- The lines before the pattern: Header, over VarsLine, Arguments, SymbolLines and Declared, one line after the other, and Words,
 -- Names, Numerals, what single words say. The pattern: Pattern, over TokenScan (its tokens), Grammar (phrases), Course (what was read
--- is a phrase), Complete (every phrase is read); Fuel (the bound on calls is no bound). Scans: laws of scanning.
+-- is a phrase), Complete (every phrase is read); Fuel (the bound on calls is no bound). Scans: laws of scanning. FormWords: the stated form in words,
+-- every condition written out, for readers of `Shape`, `text` and `tokens`.
 pub mod Scans
 pub mod Words
 pub mod Names
@@ -23,3 +24,4 @@ pub mod Outcomes
 pub mod Shapes
 pub mod Ascii
 pub mod Accepted
+pub mod FormWords

@@ -74,6 +74,9 @@ table =
     ∷ sample (cat (cat a b) c) false (0 ∷ 1 ∷ 2 ∷ []) (1 ∷ []) (3 ∷ []) (0 ∷ 1 ∷ 2 ∷ []) ((2 ∷ []) ∷ (3 ∷ []) ∷ [] ∷ [])
     -- a | b a
     ∷ sample (alt a (cat b a)) false (0 ∷ []) (1 ∷ 2 ∷ []) (1 ∷ 3 ∷ []) (0 ∷ 1 ∷ 0 ∷ []) ([] ∷ (3 ∷ []) ∷ [] ∷ [])
+    -- a | a, and (a | a) b: one symbol at two positions is two positions
+    ∷ sample (alt a a) false (0 ∷ []) (1 ∷ 2 ∷ []) (1 ∷ 2 ∷ []) (0 ∷ 0 ∷ []) ([] ∷ [] ∷ [])
+    ∷ sample (cat (alt a a) b) false (0 ∷ 1 ∷ []) (1 ∷ 2 ∷ []) (3 ∷ []) (0 ∷ 0 ∷ 1 ∷ []) ((3 ∷ []) ∷ (3 ∷ []) ∷ [] ∷ [])
     -- (a b)*
     ∷ sample (star (cat a b)) true [] (1 ∷ []) (2 ∷ []) (0 ∷ 1 ∷ []) ((2 ∷ []) ∷ (1 ∷ []) ∷ [])
     -- (a b)+

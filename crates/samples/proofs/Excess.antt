@@ -70,7 +70,13 @@ Twelve = told (ascii "vars abcdefghijkl\nsym abcdefghijkm 1 abcdefghijkl\nmatch 
 abbrev Spaced : Type 0
 Spaced = map (λ p. told (oneText p)) (times 17 "( " ∷ times 17 "  (" ∷ []) ≡ (3, 51) ∷ (3, 69) ∷ []
 
-pub any-form : InExcess × BehindLast × Repeated × Twelve × BeforeSign × Spaced
+-- names are the same only as a whole: a name that an earlier one begins with is another, as is one that begins with an earlier one
+abbrev Begun : Type 0
+Begun =
+    map told (ascii "vars abc ab a\nsym abcd 1 ab abc a\nsym b 2\nmatch abcd b\n" ∷ ascii "vars abc\nsym abcd 1 abc\nsym ab 2\nsym a 3\nmatch abcd ab a\n" ∷ [])
+    ≡ (0, 0) ∷ (0, 0) ∷ []
+
+pub any-form : InExcess × BehindLast × Repeated × Twelve × BeforeSign × Spaced × Begun
 unfolding spacesEnd wordEnd nameEnd nextWord nameFault kindOf wantWord kindFrom symbolFrom linesOf itemOf nameAtom closed alternationFrom patternFrom lastLine
     matchFrom readingOf bit join meet single
-any-form = ((refl, refl, refl, refl, refl, refl), (refl, refl), refl, refl, refl, refl)
+any-form = ((refl, refl, refl, refl, refl, refl), (refl, refl), refl, refl, refl, refl, refl)

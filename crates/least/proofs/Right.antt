@@ -1,0 +1,83 @@
+-- No reason where there is none: lines that declare, whatever the pattern's line is, have no fault (`right-lines`); and what is counted as occurrences,
+-- token by token, are the pattern's positions (`occurrences-counted`). Limits are written out; neither names a fault or a shape.
+use mathlib.Core.Path.{_≡_, refl, ap, ap₂, _∙_}
+use mathlib.Core.Bool.{Bool, true, false}
+use mathlib.Core.List.{List, [], _∷_, _++_, List·Memᴰ}
+use Prim.Native.Nat.{ℕ, _+_, _≤_, _<_}
+use native.Mathlib.Omega.{arith}
+use lib.Dec.{ltb}
+use lib.ListN.{length, length-append, getD}
+use borrow.Author.Tests.{ltb-true, ltb-false}
+use Rattle.laws.specs.Lists.{keep}
+use Rattle.laws.proofs.Lists.{keep-append, all-of}
+use Rattle.pattern.specs.Regex.{Regex}
+use Rattle.pattern.specs.Positions.{size}
+use Rattle.meaning.specs.Book.{soundSymbol}
+use Rattle.form.specs.Text.{Bytes, isBytes, ascii, isName, SymbolLine, Declarations, header, symbolOf}
+use Rattle.form.specs.Tokens.{Token, sign}
+use Rattle.form.specs.Phrase.{Level, Phrase, symbol, group, plain, starred, plussed, optional, last, then, only, or}
+use Rattle.form.specs.Form.{allNames}
+use Rattle.form.specs.Scan.{run, isWordByte}
+use Rattle.form.specs.Lines.{linesOf}
+use Rattle.parsing.proofs.Header.{Header, header-read}
+use Rattle.parsing.proofs.FormWords.{Named, name-words, distinct-words, Lined, line-words}
+use Rattle.book.specs.Answers.{numberOf, placeOf}
+use Rattle.book.specs.Books.{reading}
+use Rattle.fault.specs.Fault.{Fault}
+use Rattle.fault.specs.Places.{occurrences}
+use Rattle.fault.specs.Places as Places
+use Rattle.least.proofs.HeaderCourse.{lines-matched}
+use Rattle.least.proofs.HeaderFaults.{matched-ready}
+use Rattle.least.proofs.Sites.{Clean}
+use Rattle.least.proofs.Refused.{refused}
+
+-- lines that declare d, then the word `match`, then anything: 2 to 6 stand behind that word
+pub right-lines : (d : Declarations) (z : Bytes) → let s = header d ++ (ascii "match" ++ z) in
+    isBytes s ≡ true → run isWordByte z ≡ 0
+    → ((w : Bytes) → List·Memᴰ w (allNames d) → Named w)
+    → ((i j : ℕ) → i < j → j < length (allNames d) → getD (allNames d) i [] ≡ getD (allNames d) j [] → ⊥)
+    → length (d .variables) ≤ 4 → 1 ≤ length (d .symbols) → length (d .symbols) ≤ 16
+    → ((l : SymbolLine) → List·Memᴰ l (d .symbols) → Lined (length (d .variables)) l)
+    → 2 ≤ numberOf (reading s .answer) → numberOf (reading s .answer) ≤ 6 → length (header d) + 5 ≤ placeOf (reading s .answer)
+right-lines d z bytes stops named apart few some most lined low high =
+    let s = header d ++ (ascii "match" ++ z) in
+    let h : Header s d = record {
+      rest = z;
+      text = refl;
+      stops = stops;
+      named = all-of isName (allNames d) (λ w m. name-words w .1 (named w m));
+      distinct = distinct-words (allNames d) .1 apart;
+      fewVariables = few;
+      someSymbols = some;
+      fewSymbols = most;
+      symbols = all-of (λ l. soundSymbol (length (d .variables)) (symbolOf l)) (d .symbols) (λ l m. line-words (length (d .variables)) l .1 (lined l m));
+    } in
+    let e = header-read s d h in
+    let r = matched-ready s bytes _ _ _ (lines-matched s bytes (ap (λ l. l .step .fault) e)) in
+    let p = placeOf (reading s .answer) in
+    let f = refused s bytes .fault (numberOf (reading s .answer)) p low high .0 (refl, refl) .1 .fault in
+    let here : linesOf s .step .place ≡ length (header d) + 5 = ap (λ l. l .step .place) e in
+    by s p (r .clean) f here (ltb p (length (header d) + 5)) refl
+  where
+    by : (s : Bytes) (p : ℕ) {b m n : ℕ} → Clean s b → Fault s p n → b ≡ m → (t : Bool) → ltb p m ≡ t → m ≤ p
+    by s p clean f e true h = absurd (clean p _ (omega (arith, e, ltb-true p _ h)) f)
+    by s p clean f e false h = ltb-false p _ h
+
+occurrences-append : (ts us : List Token) → occurrences (ts ++ us) ≡ occurrences ts + occurrences us
+occurrences-append ts us = ap length (keep-append Places.isName ts us) ∙ length-append (keep Places.isName ts) (keep Places.isName us)
+
+occurrences-signed : (ts : List Token) (b : ℕ) → occurrences (ts ++ (sign b ∷ [])) ≡ occurrences ts
+occurrences-signed ts b = occurrences-append ts (sign b ∷ []) ∙ omega arith
+
+-- "At most 31 symbol occurrences": what is counted from the left are the positions of the pattern, and no sign is one
+pub occurrences-counted : {symbols : List Bytes} {k : Level} {d : ℕ} {ts : List Token} {r : Regex} → Phrase symbols k d ts r → occurrences ts ≡ size r
+occurrences-counted (symbol h) = refl
+occurrences-counted (group {ts = ts} x) = occurrences-signed ts 41 ∙ occurrences-counted x
+occurrences-counted (plain x) = occurrences-counted x
+occurrences-counted (starred {ts = ts} x) = occurrences-signed ts 42 ∙ occurrences-counted x
+occurrences-counted (plussed {ts = ts} x) = occurrences-signed ts 43 ∙ occurrences-counted x
+occurrences-counted (optional {ts = ts} x) = occurrences-signed ts 63 ∙ occurrences-counted x
+occurrences-counted (last x) = occurrences-counted x
+occurrences-counted (then {ts = ts} {us = us} x y) = occurrences-append ts us ∙ ap₂ _+_ (occurrences-counted x) (occurrences-counted y)
+occurrences-counted (only x) = occurrences-counted x
+occurrences-counted (or {ts = ts} {us = us} x y) = occurrences-append ts (sign 124 ∷ us) ∙ ap₂ _+_ (occurrences-counted x) (occurrences-counted y)
