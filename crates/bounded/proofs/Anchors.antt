@@ -269,12 +269,3 @@ pub unnamed-judged : map (λ y. soundBook (book 1 (symbol 1 (names 0 ∷ []) ∷
     ≡ true ∷ replicate 4 false
 unfolding bit soundBook soundSymbol
 unnamed-judged = refl
-
--- "Equal disjuncts are one": what the start gives and a held disjunct gives too is one. `vars d s`, a 1 d s, c 2 d, e 3 d s, `match a? c+ e` after a(1,1)
--- to a(1,127) and c(1) holds 128; a second c(1) has room
-pub start-once : room
-    (book 2 (symbol 1 (names 0 ∷ names 1 ∷ []) ∷ symbol 2 (names 0 ∷ []) ∷ symbol 3 (names 0 ∷ names 1 ∷ []) ∷ []) (0 ∷ 1 ∷ 2 ∷ []) 6 8 (4 ∷ 12 ∷ 0 ∷ []) false)
-    (heldAt 2 (bound 1 ∷ free [] ∷ []) ∷ map (λ x. heldAt 2 (bound 1 ∷ bound x ∷ [])) (numbers 1 127)) (record { kind = 2; args = 1 ∷ [] })
-    ≡ true
-unfolding bit matches constraintOf compareDisjuncts skipBy sources stepSet skipSet newLabel newHeld setRoom room
-start-once = refl

@@ -13,7 +13,7 @@ use Rattle.laws.specs.Bits.{bit, join, meet, single}
 use Rattle.laws.specs.Lists.{all}
 use Rattle.laws.specs.Order.{lex, ascending}
 use Rattle.laws.proofs.Order.{lt-compare, compare-order, first-differing, begun-before, lex-order}
-use Rattle.pattern.specs.Regex.{lit, cat, opt}
+use Rattle.pattern.specs.Regex.{lit, cat, opt, plus}
 use Rattle.meaning.specs.Events.{Event, ignored, names, matches, constraintOf, wellFormed, isValuation, holds, concerns}
 use Rattle.meaning.specs.Meaning.{Tracematch, noEvent, Row}
 use Rattle.meaning.specs.Book.{bookOf, isProper, soundSymbol}
@@ -214,3 +214,17 @@ pub in-order : heldAfter
     ≡ heldAt 1 (free (1 ∷ []) ∷ free [] ∷ []) ∷ heldAt 1 (free (1 ∷ []) ∷ free (7 ∷ []) ∷ []) ∷ []
 unfolding bit join single matches constraintOf bookOf compareDisjuncts skipBy sources stepSet skipSet newLabel newHeld
 in-order = refl
+
+-- "The step set of q" is a set: what the start, a position and the position itself give alike is one disjunct. `vars d s`, a 1 d s, c 2 d, e 3 d s,
+-- `match a? c+ e`, with d = 1 held at the first two positions, and c(1)
+pub met-once : stepSet
+    (bookOf (record {
+      variables = 2;
+      symbols = record { kind = 1; parameters = names 0 ∷ names 1 ∷ [] } ∷ record { kind = 2; parameters = names 0 ∷ [] }
+          ∷ record { kind = 3; parameters = names 0 ∷ names 1 ∷ [] } ∷ [];
+      pattern = cat (opt (lit 0)) (cat (plus (lit 1)) (lit 2));
+    }))
+    (heldAt 1 (bound 1 ∷ free [] ∷ []) ∷ heldAt 2 (bound 1 ∷ free [] ∷ []) ∷ []) (record { kind = 2; args = 1 ∷ [] }) 2
+    ≡ (bound 1 ∷ free [] ∷ []) ∷ []
+unfolding bit join single matches constraintOf bookOf compareDisjuncts sources stepSet
+met-once = refl
