@@ -31,33 +31,33 @@ pub fn step(text: &[u8], work: &mut [u32], at: u32, b: u32) {
 
 // "a space too many is 2 at that space": before the first word, or behind another.
 fn space(text: &[u8], work: &mut [u32], at: u32) {
-    if noted::get(work, RUN) != noted::WORD {
+    if cells::get(work, RUN) != noted::WORD {
         noted::fault(work, 2, at);
         return;
     }
     word_end(text, work, at);
-    noted::put(work, RUN, noted::GAP);
-    noted::put(work, FROM, at);
+    cells::put(work, RUN, noted::GAP);
+    cells::put(work, FROM, at);
 }
 
 // The last space of a line is one too many; "a missing one is placed at the LF, a missing LF at the book's end".
 fn line_end(text: &[u8], work: &mut [u32], at: u32, b: u32) {
-    let run = noted::get(work, RUN);
-    let from = noted::get(work, FROM);
+    let run = cells::get(work, RUN);
+    let from = cells::get(work, FROM);
     word_end(text, work, at);
     noted::fault_if(run == noted::GAP, work, 2, from);
-    let missing = noted::get(work, WORD_COUNT) < least_words(work);
+    let missing = cells::get(work, WORD_COUNT) < least_words(work);
     noted::fault_if(missing || b == noted::END, work, 2, at);
     noted::up(work, noted::LINE);
-    noted::put(work, WORD_COUNT, 0);
-    noted::put(work, RUN, noted::NOTHING);
-    if noted::get(work, noted::LEAST) != 0 {
-        noted::put(work, noted::PHASE, noted::OVER);
+    cells::put(work, WORD_COUNT, 0);
+    cells::put(work, RUN, noted::NOTHING);
+    if cells::get(work, noted::LEAST) != 0 {
+        cells::put(work, noted::PHASE, noted::OVER);
     }
 }
 
 fn least_words(work: &[u32]) -> u32 {
-    if noted::get(work, noted::LINE) == 0 {
+    if cells::get(work, noted::LINE) == 0 {
         VARS_WORDS
     } else {
         SYM_WORDS
@@ -65,18 +65,18 @@ fn least_words(work: &[u32]) -> u32 {
 }
 
 fn word_byte(work: &mut [u32], at: u32, b: u32) {
-    if noted::get(work, RUN) != noted::WORD {
-        noted::put(work, RUN, noted::WORD);
-        noted::put(work, FROM, at);
+    if cells::get(work, RUN) != noted::WORD {
+        cells::put(work, RUN, noted::WORD);
+        cells::put(work, FROM, at);
         noted::up(work, WORD_COUNT);
-        noted::put(work, noted::FORM, form(true, 1, b));
-        noted::put(work, noted::VALUE, value(0, b));
+        cells::put(work, noted::FORM, form(true, 1, b));
+        cells::put(work, noted::VALUE, value(0, b));
         return;
     }
-    let form = form(false, noted::get(work, noted::FORM), b);
-    let value = value(noted::get(work, noted::VALUE), b);
-    noted::put(work, noted::FORM, form);
-    noted::put(work, noted::VALUE, value);
+    let form = form(false, cells::get(work, noted::FORM), b);
+    let value = value(cells::get(work, noted::VALUE), b);
+    cells::put(work, noted::FORM, form);
+    cells::put(work, noted::VALUE, value);
 }
 
 // 1 where a word that has the form of a name has it still with one byte more.
@@ -99,13 +99,13 @@ fn value(before: u32, b: u32) -> u32 {
 
 // The word that ends before this place, if one does, by its number on its line.
 fn word_end(text: &[u8], work: &mut [u32], at: u32) {
-    if noted::get(work, RUN) != noted::WORD {
+    if cells::get(work, RUN) != noted::WORD {
         return;
     }
-    let i = noted::get(work, WORD_COUNT);
-    let from = noted::get(work, FROM);
+    let i = cells::get(work, WORD_COUNT);
+    let from = cells::get(work, FROM);
     let size = noted::size(work, at);
-    if noted::get(work, noted::LINE) == 0 {
+    if cells::get(work, noted::LINE) == 0 {
         vars_word(text, work, i, from, size);
     } else {
         sym_word(text, work, i, from, size);
@@ -134,7 +134,7 @@ fn sym_word(text: &[u8], work: &mut [u32], i: u32, from: u32, size: u32) {
             name(text, work, from, size);
         }
         3 => {
-            let kind = noted::get(work, noted::VALUE);
+            let kind = cells::get(work, noted::VALUE);
             noted::fault_if(KIND_LIMIT < kind, work, 2, from);
         }
         4..=7 => {
@@ -148,10 +148,10 @@ fn sym_word(text: &[u8], work: &mut [u32], i: u32, from: u32, size: u32) {
 
 // `match` behind a `sym` line; else `sym`, "for a seventeenth `sym`, that word".
 fn first_word(text: &[u8], work: &mut [u32], from: u32, size: u32) {
-    let line = noted::get(work, noted::LINE);
+    let line = cells::get(work, noted::LINE);
     if declared::spells(text, from, size, b"match") {
         noted::fault_if(line == 1, work, 2, from);
-        noted::put(work, noted::PHASE, noted::PATTERN);
+        cells::put(work, noted::PHASE, noted::PATTERN);
         return;
     }
     noted::fault_if(!declared::spells(text, from, size, b"sym"), work, 2, from);
@@ -161,14 +161,14 @@ fn first_word(text: &[u8], work: &mut [u32], from: u32, size: u32) {
 // Form and size of a name, and "name already declared".
 fn name(text: &[u8], work: &mut [u32], from: u32, size: u32) {
     formed(work, from, size);
-    let names = noted::get(work, noted::NAMES);
+    let names = cells::get(work, noted::NAMES);
     let n = declared::find(text, work, 0, names, from, size);
     noted::fault_if(n < names, work, 4, from);
     declared::declare(work, from, size);
 }
 
 fn formed(work: &mut [u32], from: u32, size: u32) {
-    noted::fault_if(noted::get(work, noted::FORM) == 0, work, 2, from);
+    noted::fault_if(cells::get(work, noted::FORM) == 0, work, 2, from);
     noted::fault_if(declared::NAME_BYTES < size, work, 3, from);
 }
 
@@ -178,7 +178,7 @@ fn argument(text: &[u8], work: &mut [u32], from: u32, size: u32) {
         return;
     }
     formed(work, from, size);
-    let variables = noted::get(work, noted::VARIABLES);
+    let variables = cells::get(work, noted::VARIABLES);
     let v = declared::find(text, work, 0, variables, from, size);
     noted::fault_if(v == variables, work, 5, from);
     declared::bind(work, v);

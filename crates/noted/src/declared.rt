@@ -72,12 +72,12 @@ fn index(n: u32, i: usize) -> usize {
 pub fn find(text: &[u8], work: &[u32], first: u32, last: u32, from: u32, size: u32) -> u32 {
     let mut n = first;
     while n < last {
-        if crate::get(work, index(n, crate::SIZE)) == size
+        if cells::get(work, index(n, crate::SIZE)) == size
             && same(
                 text,
                 from,
                 text,
-                crate::get(work, index(n, crate::START)),
+                cells::get(work, index(n, crate::START)),
                 size,
             )
         {
@@ -90,32 +90,32 @@ pub fn find(text: &[u8], work: &[u32], first: u32, last: u32, from: u32, size: u
 
 // One name more.
 pub fn declare(work: &mut [u32], from: u32, size: u32) {
-    let n = crate::get(work, crate::NAMES);
-    crate::put(work, index(n, crate::START), from);
-    crate::put(work, index(n, crate::SIZE), size);
+    let n = cells::get(work, crate::NAMES);
+    cells::put(work, index(n, crate::START), from);
+    cells::put(work, index(n, crate::SIZE), size);
     crate::up(work, crate::NAMES);
 }
 
 // The last name binds a variable.
 pub fn bind(work: &mut [u32], variable: u32) {
-    let names = crate::get(work, crate::NAMES) % BOUND;
+    let names = cells::get(work, crate::NAMES) % BOUND;
     let i = index(names + BOUND - 1, crate::BINDS);
-    let binds = crate::get(work, i);
-    crate::put(work, i, binds | 1 << (variable % 32));
+    let binds = cells::get(work, i);
+    cells::put(work, i, binds | 1 << (variable % 32));
 }
 
 // What the name with a number binds, a bit to each variable.
 pub fn binds(work: &[u32], n: u32) -> u32 {
-    crate::get(work, index(n, crate::BINDS))
+    cells::get(work, index(n, crate::BINDS))
 }
 
 // Where the name with a number was declared; nothing where it was not, or the text was refused.
 pub fn name(work: &[u32], n: u32) -> Part {
-    if crate::get(work, crate::LEAST) != 0 || crate::get(work, crate::NAMES) <= n {
+    if cells::get(work, crate::LEAST) != 0 || cells::get(work, crate::NAMES) <= n {
         return Part { start: 0, size: 0 };
     }
     Part {
-        start: crate::get(work, index(n, crate::START)) as usize,
-        size: crate::get(work, index(n, crate::SIZE)) as usize,
+        start: cells::get(work, index(n, crate::START)) as usize,
+        size: cells::get(work, index(n, crate::SIZE)) as usize,
     }
 }

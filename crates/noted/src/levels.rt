@@ -13,17 +13,17 @@ pub const ALL: u32 = 31;
 
 // The words of the depth that the scan is at.
 fn index(work: &[u32], i: usize) -> usize {
-    let depth = crate::get(work, DEPTH) as usize % crate::LEVELS;
+    let depth = cells::get(work, DEPTH) as usize % crate::LEVELS;
     crate::LEVEL + depth * crate::LEVEL_WORDS + i % crate::LEVEL_WORDS
 }
 
 fn get(work: &[u32], i: usize) -> u32 {
-    crate::get(work, index(work, i))
+    cells::get(work, index(work, i))
 }
 
 fn put(work: &mut [u32], i: usize, x: u32) {
     let at = index(work, i);
-    crate::put(work, at, x);
+    cells::put(work, at, x);
 }
 
 // What every word of the sequence has, its last item included: what either part has.
@@ -41,7 +41,7 @@ pub fn item(work: &mut [u32], x: u32) {
     let before = sequence(work);
     put(work, SEQUENCE, before);
     put(work, ITEM, x);
-    crate::put(work, STANDS, 1);
+    cells::put(work, STANDS, 1);
 }
 
 pub fn divide(work: &mut [u32]) {
@@ -59,5 +59,5 @@ pub fn begin(work: &mut [u32], lacked: u32) {
     put(work, LACKED, lacked);
     put(work, SEQUENCE, 0);
     put(work, ITEM, 0);
-    crate::put(work, STANDS, 0);
+    cells::put(work, STANDS, 0);
 }

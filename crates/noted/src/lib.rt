@@ -1,6 +1,5 @@
-// What the second reader has noted so far, a word to each thing, with checked reads and writes: 0 where there is nothing, no change where
-// there is no place. For `scanner`, which reads a text byte by byte; what it notes of names is in `declared`, of the
-// pattern's words in `levels`.
+// What the second reader has noted so far, a word to each thing, read and written by `cells`. For `scanner`, which reads a text byte by
+// byte; what it notes of names is in `declared`, of the pattern's words in `levels`.
 pub mod declared;
 pub mod levels;
 
@@ -89,16 +88,6 @@ pub const PLACES: usize = 65536;
 
 pub const BOUND: u32 = 65536;
 
-pub fn get(work: &[u32], i: usize) -> u32 {
-    if i < work.len() { work[i] } else { 0 }
-}
-
-pub fn put(work: &mut [u32], i: usize, x: u32) {
-    if i < work.len() {
-        work[i] = x;
-    }
-}
-
 pub fn up(work: &mut [u32], i: usize) {
     if i < work.len() {
         work[i] = work[i] % BOUND + 1;
@@ -116,9 +105,9 @@ pub fn clear(work: &mut [u32]) {
 // A fault is noted where it is the least so far: "the earliest place; at one place the smaller number".
 pub fn fault(work: &mut [u32], number: u32, place: u32) {
     let key = place % BOUND * NUMBERS + number % NUMBERS;
-    let least = get(work, LEAST);
+    let least = cells::get(work, LEAST);
     if least == 0 || key < least {
-        put(work, LEAST, key);
+        cells::put(work, LEAST, key);
     }
 }
 
@@ -130,6 +119,6 @@ pub fn fault_if(wrong: bool, work: &mut [u32], number: u32, place: u32) {
 
 // How many bytes a word that began at FROM has before a place.
 pub fn size(work: &[u32], at: u32) -> u32 {
-    let from = get(work, FROM);
+    let from = cells::get(work, FROM);
     if from <= at { at - from } else { 0 }
 }

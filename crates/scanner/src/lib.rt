@@ -22,7 +22,7 @@ pub fn judge(text: &[u8], work: &mut [u32]) -> Verdict {
         };
     }
     scan(text, work);
-    let least = noted::get(work, noted::LEAST) as usize;
+    let least = cells::get(work, noted::LEAST) as usize;
     Verdict {
         number: least % noted::NUMBERS as usize,
         place: least / noted::NUMBERS as usize,
@@ -32,7 +32,7 @@ pub fn judge(text: &[u8], work: &mut [u32]) -> Verdict {
 // Byte by byte, then the end of the text.
 fn scan(text: &[u8], work: &mut [u32]) {
     let mut at: usize = 0;
-    while at <= text.len() && noted::get(work, noted::PHASE) != noted::OVER {
+    while at <= text.len() && cells::get(work, noted::PHASE) != noted::OVER {
         step(
             text,
             work,
@@ -44,7 +44,7 @@ fn scan(text: &[u8], work: &mut [u32]) {
 }
 
 fn step(text: &[u8], work: &mut [u32], at: u32, b: u32) {
-    let phase = noted::get(work, noted::PHASE);
+    let phase = cells::get(work, noted::PHASE);
     if phase == noted::LINES {
         header::step(text, work, at, b);
     } else if phase == noted::PATTERN {
@@ -56,7 +56,7 @@ fn step(text: &[u8], work: &mut [u32], at: u32, b: u32) {
 
 // "Nothing follows it." Where nothing does, only 7 and 8 are left to judge.
 fn behind(work: &mut [u32], at: u32, b: u32) {
-    noted::put(work, noted::PHASE, noted::OVER);
+    cells::put(work, noted::PHASE, noted::OVER);
     if b == noted::END {
         tokens::words(work);
     } else {

@@ -77,7 +77,7 @@ fn long(size: usize, work: &mut [u32], score: &mut [u32]) {
     let base = variants::base(0, &mut text) % LONGEST;
     variants::push(&mut text, (base + LONGEST - 1) % LONGEST, b' ' as u32);
     variants::push(&mut text, size, b'\n' as u32);
-    compared(variants::part(&text, 0, size % LONGEST + 1), work, score);
+    compared(cells::part(&text, 0, size % LONGEST + 1), work, score);
 }
 
 fn singles(work: &mut [u32], score: &mut [u32]) {
@@ -94,7 +94,7 @@ fn each(k: usize, work: &mut [u32], score: &mut [u32]) {
     let size = variants::base(k, &mut text) % variants::ROOM;
     let mut i: usize = 0;
     while i < (size + 1) * variants::KINDS {
-        single(variants::part(&text, 0, size), i, work, score);
+        single(cells::part(&text, 0, size), i, work, score);
         i += 1;
     }
 }
@@ -103,7 +103,7 @@ fn single(text: &[u8], i: usize, work: &mut [u32], score: &mut [u32]) {
     let mut out = [0u8; variants::ROOM];
     let e = variants::of_kind(text, i % variants::KINDS, i / variants::KINDS);
     let size = variants::edited(text, e, &mut out);
-    compared(variants::part(&out, 0, size), work, score);
+    compared(cells::part(&out, 0, size), work, score);
 }
 
 fn pairs(work: &mut [u32], score: &mut [u32]) {
@@ -119,11 +119,11 @@ fn pair(i: u64, work: &mut [u32], score: &mut [u32]) {
     let mut out = [0u8; variants::ROOM];
     let k = draws::below(i, 0, variants::BASES as u64) as usize;
     let base = variants::base(k, &mut text);
-    let e = drawn(i, 1, variants::part(&text, 0, base));
-    let once = variants::edited(variants::part(&text, 0, base), e, &mut out);
-    let e = drawn(i, 4, variants::part(&out, 0, once));
-    let twice = variants::edited(variants::part(&out, 0, once), e, &mut text);
-    compared(variants::part(&text, 0, twice), work, score);
+    let e = drawn(i, 1, cells::part(&text, 0, base));
+    let once = variants::edited(cells::part(&text, 0, base), e, &mut out);
+    let e = drawn(i, 4, cells::part(&out, 0, once));
+    let twice = variants::edited(cells::part(&out, 0, once), e, &mut text);
+    compared(cells::part(&text, 0, twice), work, score);
 }
 
 // An edit of the text, the first or the second of pair number i, by three draws from k on: in the pattern more often than before it.
@@ -162,7 +162,7 @@ fn named(text: &[u8], work: &[u32], number: u32) -> bool {
         && p.size == n.size
         && check::same(
             reader::name(text, number as usize),
-            variants::part(text, p.start, p.size),
+            cells::part(text, p.start, p.size),
         )
 }
 

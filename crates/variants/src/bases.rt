@@ -29,17 +29,6 @@ pub fn push(text: &mut [u8], n: usize, b: u32) -> usize {
     n
 }
 
-// So many bytes from a place on, or all where there are not so many.
-pub fn part(text: &[u8], from: usize, size: usize) -> &[u8] {
-    if from <= text.len() {
-        let rest = text.len() - from;
-        if size <= rest {
-            return &text[from..from + size];
-        }
-    }
-    text
-}
-
 fn copied(from: &[u8], text: &mut [u8]) -> usize {
     let mut n: usize = 0;
     let mut i: usize = 0;

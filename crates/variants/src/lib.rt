@@ -6,7 +6,6 @@ pub use bases::BASES;
 use bases::NONE;
 pub use bases::ROOM;
 pub use bases::base;
-pub use bases::part;
 pub use bases::push;
 
 // The bytes that are put in; the kinds of edits: six, and two for each of these.
