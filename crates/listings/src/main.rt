@@ -1,4 +1,4 @@
-// The listing of eleven pairs of files, each below its heading, for the gate to run it on what document 01's sample does not have.
+// The listing of twelve pairs of files, each below its heading, for the gate to run it on what document 01's sample does not have.
 fn list(heading: &[u8], book: &[u8], events: &[u8]) {
     io::write_all(1, heading);
     printing::print_files(book, events, 0);
@@ -17,6 +17,7 @@ fn list(heading: &[u8], book: &[u8], events: &[u8]) {
 // - 14 x 128 rows to one event, 43,008 bytes of the 65,536 that are lent, with values of ten digits: one row is 48 bytes long, and one begins where
 //   65,489 bytes are gathered.
 // - B1 after 999,998 accepted events: two more are accepted, then a record out of form is 10, one in form 11.
+// - B1 after 900,000, and the 7,000 records, which concern nothing: 77,000 bytes of lines without a row.
 fn main() {
     list(b"refused\n", b"refused.txt", b"refused.events");
     list(b"short\n", b"short.txt", b"short.events");
@@ -30,4 +31,6 @@ fn main() {
     list(b"most\n", b"most.txt", b"most.events");
     io::write_all(1, b"late\n");
     printing::print_files(b"short.txt", b"late.events", 999998);
+    io::write_all(1, b"bare\n");
+    printing::print_files(b"short.txt", b"long.events", 900000);
 }
