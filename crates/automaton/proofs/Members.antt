@@ -130,3 +130,11 @@ module _ (b : Book) (held : List Held) (e : Event) where
         (q, low, omega arith, u, r),
     λ (q, low, high, u, r). rows-member σ .1 (q, mem-numbers q 1 (length (b .occurrences)) .1 (low, omega arith), u, r),
   )
+
+-- "positions 1 to 31": what `nine-rules` and `twelve-rules` call the positions of a book are all of them, whether a word ends there, goes on or comes
+-- there or not
+pub positions-words : (b : Book) (q : ℕ) → List·Memᴰ q (positions b) ↔ ((1 ≤ q) × (q ≤ length (b .occurrences)))
+positions-words b q = (
+  λ m. let (low, high) = mem-numbers q 1 (length (b .occurrences)) .0 m in (low, omega arith),
+  λ (low, high). mem-numbers q 1 (length (b .occurrences)) .1 (low, omega arith),
+)

@@ -260,6 +260,11 @@ pub book-names : (s : Bytes) (d : Declarations) (r : Regex) → Form s d r → r
 unfolding bookFor heldTable
 book-names s d r f = ap (λ b. b .names) (whole s d r f)
 
+-- the same with its numbers written out: 20 names, the declared ones first, the others zero; where each stands in the text is `places-words` (crate parsing)
+pub names-held : (s : Bytes) (d : Declarations) (r : Regex) → Form s d r
+    → reading s .book .names ≡ pad 20 (record { start = 0; size = 0 }) (map (λ x. record { start = x .start; size = x .size }) (spans d))
+names-held s d r f = book-names s d r f
+
 -- a declaring place has the size of the name
 variable-sizes : (p : ℕ) (ws : List Bytes) → map (λ x. x .size) (variableSpans p ws) ≡ map length ws
 variable-sizes p [] = refl

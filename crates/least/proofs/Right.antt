@@ -1,29 +1,30 @@
--- No reason where there is none: lines that declare, whatever the pattern's line is, have no fault (`right-lines`); and what is counted as occurrences,
--- token by token, are the pattern's positions (`occurrences-counted`). Limits are written out; neither names a fault or a shape.
-use mathlib.Core.Path.{_≡_, refl, ap, ap₂, _∙_}
-use mathlib.Core.Bool.{Bool, true, false}
+-- No reason where there is none: lines that declare, whatever the pattern's line is, have no fault (`right-lines`); what is counted as occurrences,
+-- token by token, are the pattern's positions (`occurrences-counted`); which words have the form of a name (`name-form-words`). Limits are written out.
+use mathlib.Core.Path.{_≡_, refl, sym, ap, ap₂, _∙_}
+use mathlib.Core.Bool.{Bool, true, false, _&&_, true≢false}
 use mathlib.Core.List.{List, [], _∷_, _++_, List·Memᴰ}
+use mathlib.Core.Logic.{_↔_, _⊎_}
 use Prim.Native.Nat.{ℕ, _+_, _≤_, _<_}
 use native.Mathlib.Omega.{arith}
 use lib.Dec.{ltb}
 use lib.ListN.{length, length-append, getD}
 use borrow.Author.Tests.{ltb-true, ltb-false}
-use Rattle.laws.specs.Lists.{keep}
-use Rattle.laws.proofs.Lists.{keep-append, all-of}
+use Rattle.laws.specs.Lists.{keep, all}
+use Rattle.laws.proofs.Lists.{keep-append, and-true-split, all-at, all-of}
 use Rattle.pattern.specs.Regex.{Regex}
 use Rattle.pattern.specs.Positions.{size}
 use Rattle.meaning.specs.Book.{soundSymbol}
-use Rattle.form.specs.Text.{Bytes, isBytes, ascii, isName, SymbolLine, Declarations, header, symbolOf}
+use Rattle.form.specs.Text.{Bytes, isBytes, ascii, isLower, isNameByte, isName, SymbolLine, Declarations, header, symbolOf}
 use Rattle.form.specs.Tokens.{Token, sign}
 use Rattle.form.specs.Phrase.{Level, Phrase, symbol, group, plain, starred, plussed, optional, last, then, only, or}
 use Rattle.form.specs.Form.{allNames}
 use Rattle.form.specs.Scan.{run, isWordByte}
 use Rattle.form.specs.Lines.{linesOf}
 use Rattle.parsing.proofs.Header.{Header, header-read}
-use Rattle.parsing.proofs.FormWords.{Named, name-words, distinct-words, Lined, line-words}
+use Rattle.parsing.proofs.FormWords.{range, in-range, byte-words, Named, name-words, distinct-words, Lined, line-words}
 use Rattle.book.specs.Answers.{numberOf, placeOf}
 use Rattle.book.specs.Books.{reading}
-use Rattle.fault.specs.Fault.{Fault}
+use Rattle.fault.specs.Fault.{isNameForm, Fault}
 use Rattle.fault.specs.Places.{occurrences}
 use Rattle.fault.specs.Places as Places
 use Rattle.least.proofs.HeaderCourse.{lines-matched}
@@ -81,3 +82,22 @@ occurrences-counted (last x) = occurrences-counted x
 occurrences-counted (then {ts = ts} {us = us} x y) = occurrences-append ts us ∙ ap₂ _+_ (occurrences-counted x) (occurrences-counted y)
 occurrences-counted (only x) = occurrences-counted x
 occurrences-counted (or {ts = ts} {us = us} x y) = occurrences-append ts (sign 124 ∷ us) ∙ ap₂ _+_ (occurrences-counted x) (occurrences-counted y)
+
+-- "A name is a to z, then a to z or 0 to 9", of any length: what `isNameForm` says of a word in Judged and Reasons. So a word over 12 bytes is 3 only
+-- where it would be a name but for its length, and any other word is 2, however long.
+abbrev pub NameFormed : Bytes → Type 0
+NameFormed w =
+    (b : ℕ) × (l : Bytes) × (w ≡ b ∷ l) × (97 ≤ b) × (b ≤ 122) × ((c : ℕ) → List·Memᴰ c l → ((97 ≤ c) × (c ≤ 122)) ⊎ ((48 ≤ c) × (c ≤ 57)))
+
+pub name-form-words : (w : Bytes) → (isNameForm w ≡ true) ↔ NameFormed w
+name-form-words w = (forth w, back w)
+  where
+    forth : (w : Bytes) → isNameForm w ≡ true → NameFormed w
+    forth [] h = absurd (true≢false (sym h))
+    forth (a ∷ w) h =
+        let (u, v) = and-true-split (isLower a) (all isNameByte w) h in
+        let (m, n) = range 97 122 a u in
+        (a, w, refl, m, n, λ c k. byte-words c .0 (all-at isNameByte v k))
+
+    back : (w : Bytes) → NameFormed w → isNameForm w ≡ true
+    back w (b, l, e, m, n, f) = rw e (ap₂ _&&_ (in-range 97 122 b m n) (all-of isNameByte l (λ c k. byte-words c .1 (f c k))))

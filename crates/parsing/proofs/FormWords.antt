@@ -4,11 +4,12 @@ use mathlib.Core.Path.{_≡_, refl, sym, ap, ap₂, subst, _∙_}
 use mathlib.Core.Bool.{Bool, true, false, not, _&&_, _||_, true≢false}
 use mathlib.Core.List.{List, [], _∷_, _++_, map, List·Memᴰ, append-assoc, append-nil}
 use mathlib.Core.Logic.{_↔_, _⊎_, inl, inr, ⊎-elim}
-use Prim.Native.Nat.{ℕ, zero, suc, _≤_, _<_}
+use Prim.Native.Nat.{ℕ, zero, suc, _+_, _≤_, _<_}
 use native.Mathlib.Omega.{arith}
 use borrow.Author.Tests.{not-true, leb-true, le-leb, ltb-true, lt-ltb, eqb-true, eq-eqb, ne-eqb}
 use lib.Dec.{eqb, leb, ltb}
-use lib.ListN.{length, getD}
+use lib.ListN.{length, getD, take, length-append, List·getD-append}
+use lib.Seq.{getD-append-add}
 use Rattle.laws.specs.Lists.{any, all, gather}
 use Rattle.laws.proofs.Lists.{and-true-split, or-true-split, or-false-split, any-none, any-found, any-of, mem-getD, mem-index, all-at, all-of}
 use Rattle.pattern.specs.Regex.{Regex, In}
@@ -17,6 +18,7 @@ use Rattle.meaning.specs.Events.{Parameter, ignored, names}
 use Rattle.meaning.specs.Meaning.{noSymbol}
 use Rattle.meaning.specs.Book as Book
 use Rattle.meaning.specs.Book.{soundParameter, soundSymbol}
+use Rattle.form.specs.Text.{Span, variableSpans, symbolSpans, spans, varsLine}
 use Rattle.form.specs.Text.{Bytes, lf, isLower, isDigit, isNameByte, isName, SymbolLine, Declarations, text, symbolOf, ascii, decimal, spaced, parameterWord, symLine, header}
 use Rattle.form.specs.Form.{sameWord, distinct, symbolNames, allNames, binds, Shape, Form}
 use Rattle.form.specs.Tokens.{Token, name, sign, tokensAfter, tokens}
@@ -53,11 +55,22 @@ Named w =
     (b : ℕ) × (l : Bytes) × (w ≡ b ∷ l) × (97 ≤ b) × (b ≤ 122) × (length l ≤ 11)
     × ((c : ℕ) → List·Memᴰ c l → ((97 ≤ c) × (c ≤ 122)) ⊎ ((48 ≤ c) × (c ≤ 57)))
 
-range : (low high b : ℕ) → (leb low b && leb b high) ≡ true → (low ≤ b) × (b ≤ high)
+pub range : (low high b : ℕ) → (leb low b && leb b high) ≡ true → (low ≤ b) × (b ≤ high)
 range low high b h = let (x, y) = and-true-split (leb low b) (leb b high) h in (leb-true low b x, leb-true b high y)
 
-in-range : (low high b : ℕ) → low ≤ b → b ≤ high → (leb low b && leb b high) ≡ true
+pub in-range : (low high b : ℕ) → low ≤ b → b ≤ high → (leb low b && leb b high) ≡ true
 in-range low high b x y = ap₂ _&&_ (le-leb low b x) (le-leb b high y)
+
+pub byte-words : (c : ℕ) → (isNameByte c ≡ true) ↔ (((97 ≤ c) × (c ≤ 122)) ⊎ ((48 ≤ c) × (c ≤ 57)))
+byte-words c = (λ h. ⊎-elim (λ e. inl (range 97 122 c e)) (λ e. inr (range 48 57 c e)) (or-true-split (isLower c) (isDigit c) h), back)
+  where
+    by : (48 ≤ c) × (c ≤ 57) → (t : Bool) → (t || isDigit c) ≡ true
+    by e true = refl
+    by e false = in-range 48 57 c (e .0) (e .1)
+
+    back : ((97 ≤ c) × (c ≤ 122)) ⊎ ((48 ≤ c) × (c ≤ 57)) → isNameByte c ≡ true
+    back (inl e) = ap (λ t. t || isDigit c) (in-range 97 122 c (e .0) (e .1))
+    back (inr e) = by e (isLower c)
 
 pub name-words : (w : Bytes) → (isName w ≡ true) ↔ Named w
 name-words w = (forth w, back w)
@@ -67,27 +80,12 @@ name-words w = (forth w, back w)
     forth (b ∷ l) h =
         let (x, y) = and-true-split (isLower b && all isNameByte l) (leb (length l) 11) h in
         let (u, v) = and-true-split (isLower b) (all isNameByte l) x in
-        let (m, n) = range 97 122 b u in (
-          b,
-          l,
-          refl,
-          m,
-          n,
-          leb-true (length l) 11 y,
-          λ c k. ⊎-elim (λ e. inl (range 97 122 c e)) (λ e. inr (range 48 57 c e)) (or-true-split (isLower c) (isDigit c) (all-at isNameByte v k)),
-        )
-
-    byte : (c : ℕ) → ((97 ≤ c) × (c ≤ 122)) ⊎ ((48 ≤ c) × (c ≤ 57)) → isNameByte c ≡ true
-    byte c (inl e) = ap (λ t. t || isDigit c) (in-range 97 122 c (e .0) (e .1))
-    byte c (inr e) = by (isLower c)
-      where
-        by : (t : Bool) → (t || isDigit c) ≡ true
-        by true = refl
-        by false = in-range 48 57 c (e .0) (e .1)
+        let (m, n) = range 97 122 b u in
+        (b, l, refl, m, n, leb-true (length l) 11 y, λ c k. byte-words c .0 (all-at isNameByte v k))
 
     back : (w : Bytes) → Named w → isName w ≡ true
     back w (b, l, e, m, n, few, f) =
-        rw e (ap₂ _&&_ (ap₂ _&&_ (in-range 97 122 b m n) (all-of isNameByte l (λ c k. byte c (f c k)))) (le-leb (length l) 11 few))
+        rw e (ap₂ _&&_ (ap₂ _&&_ (in-range 97 122 b m n) (all-of isNameByte l (λ c k. byte-words c .1 (f c k)))) (le-leb (length l) 11 few))
 
 -- no byte of the list is c
 none-of : (c : ℕ) (l : Bytes) → (any (eqb c) l ≡ false) ↔ ((b : ℕ) → List·Memᴰ b l → b ≡ c → ⊥)
@@ -248,3 +246,53 @@ form-words s d r = (
   λ f. (f .shape, f .nonempty, λ v l w t. let (a, m, e) = any-found (binds d v) w (f .binding v l w t) in (a, m, binds-words d v a .0 e)),
   λ (x, n, f). record { shape = x; nonempty = n; binding = λ v l w t. let (a, m, e) = f v l w t in any-of (binds d v) m (binds-words d v a .1 e) },
 )
+
+-- "the declaring place" of each name, "variables from 0, then symbols": behind all that `text-words` has written before it, and a space or `sym` and a space
+abbrev pub placed : (start size : ℕ) → Span
+placed p n = record { start = p; size = n }
+
+variable-placed : (p : ℕ) (ws : List Bytes) (i : ℕ) (x : Span) → i < length ws
+    → getD (variableSpans p ws) i x ≡ placed (p + length (gather (λ w. 32 ∷ w) (take i ws))) (length (getD ws i []))
+variable-placed p [] i x h = absurd (omega arith)
+variable-placed p (w ∷ ws) zero x h = ap (λ q. placed q (length w)) (omega arith)
+variable-placed p (w ∷ ws) (suc i) x h =
+    variable-placed (p + length w + 1) ws i x (omega arith)
+    ∙ ap (λ q. placed q (length (getD ws i []))) (omega (arith, length-append w (gather (λ w. 32 ∷ w) (take i ws))))
+
+symbol-placed : (p : ℕ) (vs : List Bytes) (ls : List SymbolLine) (j : ℕ) (x : Span) → j < length ls
+    → getD (symbolSpans p vs ls) j x ≡ placed (p + length (gather (lineWritten vs) (take j ls)) + 4) (length (getD (map (λ l. l .name) ls) j []))
+symbol-placed p vs [] j x h = absurd (omega arith)
+symbol-placed p vs (l ∷ ls) zero x h = ap (λ q. placed q (length (l .name))) (omega arith)
+symbol-placed p vs (l ∷ ls) (suc j) x h =
+    symbol-placed (p + length (symLine vs l)) vs ls j x (omega arith)
+    ∙ ap (λ q. placed q (length (getD (map (λ l. l .name) ls) j [])))
+    (omega (arith, ap length (line-written vs l), length-append (lineWritten vs l) (gather (lineWritten vs) (take j ls))))
+
+variables-counted : (p : ℕ) (ws : List Bytes) → length (variableSpans p ws) ≡ length ws
+variables-counted p [] = refl
+variables-counted p (w ∷ ws) = ap suc (variables-counted (p + length w + 1) ws)
+
+pub places-words : (d : Declarations) (x : Span) → let first = ascii "vars" ++ (gather (λ w. 32 ∷ w) (d .variables) ++ (10 ∷ [])) in
+    ((i : ℕ) → i < length (d .variables)
+    → getD (spans d) i x ≡ placed (length (ascii "vars" ++ gather (λ w. 32 ∷ w) (take i (d .variables))) + 1) (length (getD (d .variables) i [])))
+    × ((j : ℕ) → j < length (d .symbols)
+    → getD (spans d) (length (d .variables) + j) x
+    ≡ placed (length (first ++ gather (lineWritten (d .variables)) (take j (d .symbols))) + 4) (length (getD (map (λ l. l .name) (d .symbols)) j [])))
+places-words d x =
+    let vs = d .variables in
+    let ls = d .symbols in
+    let a = variableSpans 5 vs in
+    let b = symbolSpans (length (varsLine vs)) vs ls in
+    let first = ascii "vars" ++ (gather (λ w. 32 ∷ w) vs ++ (10 ∷ [])) in
+    let line : varsLine vs ≡ first = ap (λ z. ascii "vars" ++ (z ++ (10 ∷ []))) (spaced-gather vs) in (
+      λ i h. List·getD-append a b x i (omega (arith, variables-counted 5 vs)) ∙ variable-placed 5 vs i x h
+          ∙ ap (λ q. placed q (length (getD vs i []))) (omega arith),
+      λ j h. ap (λ n. getD (a ++ b) (n + j) x) (sym (variables-counted 5 vs)) ∙ getD-append-add a b j x ∙ symbol-placed (length (varsLine vs)) vs ls j x h
+          ∙ ap (λ q. placed q (length (getD (map (λ l. l .name) ls) j [])))
+          (omega (arith, ap length line, length-append first (gather (lineWritten vs) (take j ls)))),
+    )
+
+-- "variables from 0, then symbols", and the numbers that a pattern's names stand for: those of the lines, in their order
+pub names-words : (d : Declarations)
+    → (symbolNames d ≡ map (λ l. l .name) (d .symbols)) × (allNames d ≡ d .variables ++ map (λ l. l .name) (d .symbols))
+names-words d = (refl, refl)

@@ -50,6 +50,12 @@ further =
     ∷ refuses (ascii "vars\nsym abcdefghijklm 1\n") 3 9
     ∷ refuses (ascii "vars\nsym abcdefghijklm! 1\n") 2 9
     ∷ refuses (ascii "vars\nsym a 1 abcdefghijklm!\n") 2 13
+    -- nor is one a name over 12 bytes that begins with a digit, or has digits alone, or two bytes of no name
+    ∷ refuses (ascii "vars 1bcdefghijklm\n") 2 5
+    ∷ refuses (ascii "vars\nsym 1bcdefghijklm 1\n") 2 9
+    ∷ refuses (ascii "vars\nsym a 1 1bcdefghijklm\n") 2 13
+    ∷ refuses (ascii "vars 1234567890123\n") 2 5
+    ∷ refuses (ascii "vars\nsym a 1 _bcdefghijkl_\n") 2 13
     -- "a symbol's name among ARGS … is 5": of a line before, of a line behind
     ∷ refuses (ascii "vars\nsym b 1\nsym a 1 b\n") 5 21
     ∷ refuses (ascii "vars\nsym a 1 b\nsym b 1\n") 5 13
