@@ -1,7 +1,7 @@
 -- Meeting and excluding, variable by variable, for any disjunct: when a meeting yields a disjunct (`meets-words`), what it binds and what it leaves
 -- (`met-words`), what an exclusion adds and what it leaves (`exclude-words`). For a buyer who asks what `meets`, `met` and `exclude` are.
 use mathlib.Core.Path.{_≡_, refl, sym, ap, ap₂, _∙_}
-use mathlib.Core.Bool.{Bool, true, false, not, _&&_, _||_, true≢false}
+use mathlib.Core.Bool.{Bool, true, false, not, _&&_, true≢false}
 use mathlib.Core.List.{List, [], _∷_, List·Memᴰ, List·Memᴰ·head, List·Memᴰ·tail}
 use mathlib.Core.Logic.{_↔_, _⊎_, dite}
 use Prim.Native.Nat.{ℕ, zero, suc, _<_, compare}
@@ -17,6 +17,7 @@ use Rattle.laws.proofs.Lists.{and-true-split, any-of, any-found, all-at}
 use Rattle.laws.proofs.Order.{compare-order}
 use Rattle.laws.proofs.Sets.{mem-insert, insert-ascending}
 use Rattle.meaning.specs.Events.{Demand, never, demands, compatible, consistent}
+use Rattle.meaning.proofs.Holds.{agreed}
 use Rattle.meaning.specs.Labels.{Entry, bound, free, Disjunct, entryOf, admits, bind, meetsAll, metAll, meets, met, excluding, exclude}
 use Rattle.automaton.proofs.Fits.{meets-admits, met-length, exclude-length}
 
@@ -32,10 +33,6 @@ admitted (free xs) x = (λ h m. true≢false (sym h ∙ ap not (any-of (eqb x) m
     go : (List·Memᴰ x xs → ⊥) → (t : Bool) → any (eqb x) xs ≡ t → not t ≡ true
     go h true e = let (y, m, k) = any-found (eqb x) xs e in absurd (h (rw (eqb-true x y k) m))
     go h false e = refl
-
--- two demands on one variable ask one value
-agreed : (c d : Demand) → compatible c d ≡ true → c .variable ≡ d .variable → c .value ≡ d .value
-agreed c d k e = eqb-true (c .value) (d .value) (sym (ap (λ b. not b || eqb (c .value) (d .value)) (eq-eqb (c .variable) (d .variable) e)) ∙ k)
 
 -- what was admitted still is once an agreeing value is bound
 admits-after : (D : Disjunct) (u v x y : ℕ) → admits (entryOf D v) x ≡ true → (u ≡ v → y ≡ x) → admits (entryOf (set D u (bound y)) v) x ≡ true

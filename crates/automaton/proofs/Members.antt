@@ -123,7 +123,8 @@ module _ (b : Book) (held : List Held) (e : Event) where
 
   -- "Rows come from the step sets of ending positions", in no other words than the book's own fields
   pub row-rule : (σ : Valuation) → List·Memᴰ σ (rows b held e)
-      ↔ ((q : ℕ) × (1 ≤ q) × (q ≤ length (b .occurrences)) × (bit q (b .ends) ≡ true) × ((D : Disjunct) × List·Memᴰ D (stepSet b held e q) × (σ ≡ map valueOf D)))
+      ↔ ((q : ℕ) × (1 ≤ q) × (q ≤ length (b .occurrences)) × (bit q (b .ends) ≡ true)
+      × ((D : Disjunct) × List·Memᴰ D (stepSet b held e q) × (σ ≡ map valueOf D)))
   row-rule σ = (
     λ m. let (q, k, u, r) = rows-member σ .0 m in
         let (low, high) = mem-numbers q 1 (length (b .occurrences)) .0 k in

@@ -9,6 +9,7 @@ use native.Mathlib.Omega.{arith}
 use lib.Dec.{eqb, leb}
 use lib.ListN.{length, getD, take, drop, replicate, length-map, length-append, length-take, length-drop, List·getD-eq-default, List·getD-map}
 use borrow.Author.Tests.{lt-ltb, le-leb, ne-eqb, eqb-true, eqb-false}
+use Rattle.laws.specs.Bits.{bit}
 use Rattle.laws.specs.Lists.{any, all, keep, numbers}
 use Rattle.laws.specs.Parts.{pad}
 use Rattle.laws.proofs.Lists.{and-true-split, all-at, all-of, all-map, length-numbers, either}
@@ -222,6 +223,19 @@ module _ (s : Bytes) where
         ap (λ b. b .ends) w,
         ap (λ b. b .follows) w,
         ap (λ b. b .empty) w,
+      )
+
+  -- the counts in the book's own fields: so many bits of the masks are set, each a position
+  pub counted-bits : (d : Declarations) (r : Regex) → Form s d r → let b = reading s .book in
+      (reading s .«begin_count» ≡ length (keep (λ p. bit p (b .begins)) (numbers 1 (b .positions))))
+      × (reading s .«end_count» ≡ length (keep (λ p. bit p (b .ends)) (numbers 1 (b .positions))))
+  unfolding Plain.bookOf
+  counted-bits d r f =
+      let (_, _, _, n, _, x, y, _, _) = held d r f in
+      let (i, j) = counts d r f in
+      let k = symbols-length r ∙ sym n in (
+        i ∙ ap₂ (λ m l. length (keep (λ p. bit p m) (numbers 1 l))) (sym x) k,
+        j ∙ ap₂ (λ m l. length (keep (λ p. bit p m) (numbers 1 l))) (sym y) k,
       )
 
 -- the tracematch that the theorems about runs speak of: of the text's own tree, and its symbols as the lines have them

@@ -8,19 +8,20 @@ use mathlib.Core.List.{List, [], _∷_, _++_, map}
 use Prim.Native.Nat.{ℕ, zero, suc, _-_, _<_, compare, Ordering·lt, Ordering·eq}
 use native.Mathlib.Omega.{arith}
 use borrow.Author.Tests.{eqb-true}
-use lib.ListN.{getD, replicate}
+use lib.Dec.{eqb}
+use lib.ListN.{length, getD, replicate}
 use Rattle.laws.specs.Bits.{bit, join, meet, single}
-use Rattle.laws.specs.Lists.{all}
+use Rattle.laws.specs.Lists.{all, keep, numbers}
 use Rattle.laws.specs.Order.{lex, ascending}
 use Rattle.laws.proofs.Order.{lt-compare, compare-order, first-differing, begun-before, lex-order}
 use Rattle.pattern.specs.Regex.{lit, cat, opt, plus}
 use Rattle.meaning.specs.Events.{Event, ignored, names, matches, constraintOf, wellFormed, isValuation, holds, concerns}
 use Rattle.meaning.specs.Meaning.{Tracematch, noEvent, Row}
-use Rattle.meaning.specs.Book.{bookOf, isProper, soundSymbol}
-use Rattle.meaning.specs.Labels.{bound, free, Disjunct, valueKey, exclusions, heldAt, compareDisjuncts}
+use Rattle.meaning.specs.Book.{Book, bookOf, isProper, soundSymbol, positions, beginsAt, endsAt}
+use Rattle.meaning.specs.Labels.{bound, free, Disjunct, Held, valueKey, exclusions, isFree, entryOf, labelOf, heldAt, compareDisjuncts}
 use Rattle.meaning.specs.Labels.{skipBy, sources, stepSet, skipSet, newLabel, newHeld}
 use Rattle.meaning.specs.Room.{setRoom, room}
-use Rattle.meaning.specs.Rows.{rows, compareValuations}
+use Rattle.meaning.specs.Rows.{rows, compareValuations, valueOf}
 use Rattle.meaning.specs.Runs.{Call, heldAfter, Pairing, Dependent, Ordered}
 use Rattle.meaning.specs.Starred.{Case, Answer, answers, table, onTheWay, partial, partialCalls, partialHeld}
 use Rattle.meaning.specs.Starred.{mixed, mixedCalls, mixedHeld, thrice, thriceCalls, thriceHeld}
@@ -228,3 +229,11 @@ pub met-once : stepSet
     ≡ (bound 1 ∷ free [] ∷ []) ∷ []
 unfolding bit join single matches constraintOf bookOf compareDisjuncts sources stepSet
 met-once = refl
+
+-- The words that `nine-rules`, `twelve-rules`, `skip-rule` and `row-rule` use by name, written out
+pub used-words : (b : Book) (held : List Held) (p v a : ℕ) (D : Disjunct) (xs : List ℕ)
+    → (positions b ≡ numbers 1 (length (b .occurrences))) × (endsAt b p ≡ bit p (b .ends))
+    × (beginsAt b p ≡ bit p (b .begins)) × (labelOf held p ≡ map (λ h. h .disjunct) (keep (λ h. eqb (h .position) p) held)) × (entryOf D v ≡ getD D v (free []))
+    × (isFree (bound a) ≡ false) × (isFree (free xs) ≡ true) × (exclusions (bound a) ≡ []) × (exclusions (free xs) ≡ xs)
+    × (valueKey (bound a) ≡ suc a) × (valueKey (free xs) ≡ 0) × (valueOf (bound a) ≡ a)
+used-words b held p v a D xs = (refl, refl, refl, refl, refl, refl, refl, refl, refl, refl, refl, refl)

@@ -2,8 +2,8 @@
 -- declarative `holds` says of it. A wrong `compatible`, `demandsOf` or `constraintOf` is refused here.
 use mathlib.Core.Path.{_≡_, refl, sym, ap, ap₂, subst, _∙_}
 use mathlib.Core.Bool.{Bool, true, false, cond, not, _&&_, _||_, false≢true}
-use mathlib.Core.List.{List, [], _∷_, List·Memᴰ}
-use mathlib.Core.Logic.{_↔_}
+use mathlib.Core.List.{List, [], _∷_, List·Memᴰ, List·Memᴰ·head, List·Memᴰ·tail, List·Memᴰ·not-nil}
+use mathlib.Core.Logic.{_↔_, _⊎_, inl, inr}
 use Prim.Native.Nat.{ℕ, zero, suc, _<_, _^_}
 use native.Mathlib.Omega.{arith}
 use lib.Dec.{eqb}
@@ -127,3 +127,109 @@ valuation-words n σ = (
   λ h. let (a, b) = and-true-split (eqb (length σ) n) (all word32 σ) h in (eqb-true _ _ a, λ x m. ltb-true x (2 ^ 32) (all-at word32 b m)),
   λ (a, b). ap₂ _&&_ (eq-eqb (length σ) n a) (all-of word32 σ (λ x m. lt-ltb x (2 ^ 32) (b x m))),
 )
+
+abbrev isNamed : Parameter → Bool
+isNamed ignored = false
+isNamed (names v) = true
+
+abbrev numberIn : Parameter → ℕ
+numberIn ignored = 0
+numberIn (names v) = v
+
+-- the demands of a symbol's constraint: one for each bound place, with the argument that stands there
+pub demand-words : (ps : List Parameter) (xs : List ℕ) (d : Demand)
+    → List·Memᴰ d (demandsOf ps xs)
+    ↔ ((i : ℕ) × (i < length ps) × (i < length xs) × (getD ps i ignored ≡ names (d .variable)) × (getD xs i 0 ≡ d .value))
+demand-words [] xs d = (λ m. absurd (List·Memᴰ·not-nil m), λ (i, h, k, a, b). absurd (omega (arith, h)))
+demand-words (p ∷ ps) [] d = (λ m. absurd (List·Memᴰ·not-nil m), λ (i, h, k, a, b). absurd (omega (arith, k)))
+demand-words (ignored ∷ ps) (x ∷ xs) d =
+    let ih = demand-words ps xs d in (
+      λ m. let (i, h, k, a, b) = ih .0 m in (suc i, omega (arith, h), omega (arith, k), a, b),
+      λ (i, h, k, a, b). ih .1 (before i h k a b),
+    )
+  where
+    before : (i : ℕ) → i < suc (length ps) → i < suc (length xs) → getD (ignored ∷ ps) i ignored ≡ names (d .variable) → getD (x ∷ xs) i 0 ≡ d .value
+        → (i : ℕ) × (i < length ps) × (i < length xs) × (getD ps i ignored ≡ names (d .variable)) × (getD xs i 0 ≡ d .value)
+    before zero h k a b = absurd (false≢true (ap isNamed a))
+    before (suc i) h k a b = (i, omega (arith, h), omega (arith, k), a, b)
+demand-words (names v ∷ ps) (x ∷ xs) d =
+    let ih = demand-words ps xs d in (
+      found (ih .0),
+      λ (i, h, k, a, b). back (ih .1) i h k a b,
+    )
+  where
+    Told : Type 0
+    Told = (i : ℕ) × (i < suc (length ps)) × (i < suc (length xs)) × (getD (names v ∷ ps) i ignored ≡ names (d .variable)) × (getD (x ∷ xs) i 0 ≡ d .value)
+
+    Further : Type 0
+    Further = (i : ℕ) × (i < length ps) × (i < length xs) × (getD ps i ignored ≡ names (d .variable)) × (getD xs i 0 ≡ d .value)
+
+    found : (List·Memᴰ d (demandsOf ps xs) → Further) → List·Memᴰ d (record { variable = v; value = x } ∷ demandsOf ps xs) → Told
+    found f (List·Memᴰ·head e) = (0, omega arith, omega arith, sym (ap (λ c. names (c .variable)) e), sym (ap (λ c. c .value) e))
+    found f (List·Memᴰ·tail m) = let (i, h, k, a, b) = f m in (suc i, omega (arith, h), omega (arith, k), a, b)
+
+    back : (Further → List·Memᴰ d (demandsOf ps xs)) → (i : ℕ) → i < suc (length ps) → i < suc (length xs)
+        → getD (names v ∷ ps) i ignored ≡ names (d .variable) → getD (x ∷ xs) i 0 ≡ d .value
+        → List·Memᴰ d (record { variable = v; value = x } ∷ demandsOf ps xs)
+    back g zero h k a b = List·Memᴰ·head (ap₂ (λ y z. record { variable = y; value = z }) (sym (ap numberIn a)) (sym b))
+    back g (suc i) h k a b = List·Memᴰ·tail (g (i, omega (arith, h), omega (arith, k), a, b))
+
+-- two demands on one variable that are not unequal ask one value
+pub agreed : (c d : Demand) → compatible c d ≡ true → c .variable ≡ d .variable → c .value ≡ d .value
+agreed c d k e = eqb-true (c .value) (d .value) (sym (ap (λ b. not b || eqb (c .value) (d .value)) (eq-eqb (c .variable) (d .variable) e)) ∙ k)
+
+-- "two unequal demands on one variable": there are none
+pub consistent-words : (ds : List Demand)
+    → (consistent ds ≡ true) ↔ ((c d : Demand) → List·Memᴰ c ds → List·Memᴰ d ds → c .variable ≡ d .variable → c .value ≡ d .value)
+consistent-words ds = (to ds, from ds)
+  where
+    to : (ds : List Demand) → consistent ds ≡ true → (c d : Demand) → List·Memᴰ c ds → List·Memᴰ d ds → c .variable ≡ d .variable → c .value ≡ d .value
+    to [] h c d m n e = absurd (List·Memᴰ·not-nil m)
+    to (x ∷ ds) h c d m n e =
+        let (g, k) = and-true-split (all (compatible x) ds) (consistent ds) h in pick g (λ m n. to ds k c d m n e) m n
+      where
+        pick : all (compatible x) ds ≡ true → (List·Memᴰ c ds → List·Memᴰ d ds → c .value ≡ d .value) → List·Memᴰ c (x ∷ ds) → List·Memᴰ d (x ∷ ds)
+            → c .value ≡ d .value
+        pick g k (List·Memᴰ·head p) (List·Memᴰ·head q) = ap (λ z. z .value) (p ∙ sym q)
+        pick g k (List·Memᴰ·head p) (List·Memᴰ·tail n) =
+            rw p (agreed x d (all-at (compatible x) g n) (sym (ap (λ z. z .variable) p) ∙ e))
+        pick g k (List·Memᴰ·tail m) (List·Memᴰ·head q) =
+            rw q (sym (agreed x c (all-at (compatible x) g m) (sym (ap (λ z. z .variable) q) ∙ sym e)))
+        pick g k (List·Memᴰ·tail m) (List·Memᴰ·tail n) = k m n
+
+    from : (ds : List Demand) → ((c d : Demand) → List·Memᴰ c ds → List·Memᴰ d ds → c .variable ≡ d .variable → c .value ≡ d .value) → consistent ds ≡ true
+    from [] f = refl
+    from (x ∷ ds) f =
+        ap₂ _&&_ (all-of (compatible x) ds (λ d m. fit d (f x d (List·Memᴰ·head refl) (List·Memᴰ·tail m))))
+        (from ds (λ c d m n. f c d (List·Memᴰ·tail m) (List·Memᴰ·tail n)))
+      where
+        fit : (d : Demand) → (x .variable ≡ d .variable → x .value ≡ d .value) → compatible x d ≡ true
+        fit d g = go (eqb (x .variable) (d .variable)) refl
+          where
+            go : (b : Bool) → eqb (x .variable) (d .variable) ≡ b → (not b || eqb (x .value) (d .value)) ≡ true
+            go true e = eq-eqb (x .value) (d .value) (g (eqb-true (x .variable) (d .variable) e))
+            go false e = refl
+
+-- "A symbol matches an event when the kinds are equal and the event's argument count equals the symbol's. Its constraint is then 'variable equals
+-- argument' for each bound place; two unequal demands on one variable make it false, as does no match."
+pub constraint-words : (s : Symbol) (e : Event) → let ds = demandsOf (s .parameters) (e .args) in
+    let Holding : Type 0 = (s .kind ≡ e .kind) × (length (s .parameters) ≡ length (e .args))
+    × ((c d : Demand) → List·Memᴰ c ds → List·Memᴰ d ds → c .variable ≡ d .variable → c .value ≡ d .value) in
+    (Holding × (constraintOf s e ≡ demands ds)) ⊎ ((Holding → ⊥) × (constraintOf s e ≡ never))
+unfolding constraintOf matches
+constraint-words s e = go (matches s e && consistent (demandsOf (s .parameters) (e .args))) refl
+  where
+    ds : List Demand
+    ds = demandsOf (s .parameters) (e .args)
+
+    Holding : Type 0
+    Holding = (s .kind ≡ e .kind) × (length (s .parameters) ≡ length (e .args))
+        × ((c d : Demand) → List·Memᴰ c ds → List·Memᴰ d ds → c .variable ≡ d .variable → c .value ≡ d .value)
+
+    go : (b : Bool) → (matches s e && consistent ds) ≡ b
+        → (Holding × (cond b (demands ds) never ≡ demands ds)) ⊎ ((Holding → ⊥) × (cond b (demands ds) never ≡ never))
+    go true h =
+        let (m, k) = and-true-split (matches s e) (consistent ds) h in
+        let (a, b) = and-true-split (eqb (s .kind) (e .kind)) _ m in
+        inl ((eqb-true _ _ a, eqb-true _ _ b, consistent-words ds .0 k), refl)
+    go false h = inr (λ (a, b, k). false≢true (sym h ∙ ap₂ _&&_ (ap₂ _&&_ (eq-eqb (s .kind) (e .kind) a) (eq-eqb _ _ b)) (consistent-words ds .1 k)), refl)

@@ -18,8 +18,8 @@ use Rattle.meaning.specs.Events.{Parameter, ignored, names}
 use Rattle.meaning.specs.Meaning.{noSymbol}
 use Rattle.meaning.specs.Book as Book
 use Rattle.meaning.specs.Book.{soundParameter, soundSymbol}
-use Rattle.form.specs.Text.{Span, variableSpans, symbolSpans, spans, varsLine}
-use Rattle.form.specs.Text.{Bytes, lf, isLower, isDigit, isNameByte, isName, SymbolLine, Declarations, text, symbolOf, ascii, decimal, spaced, parameterWord, symLine, header}
+use Rattle.form.specs.Text.{Bytes, lf, isLower, isDigit, isNameByte, isName, ascii, decimal, SymbolLine, Declarations, text, header, symbolOf}
+use Rattle.form.specs.Text.{spaced, parameterWord, varsLine, symLine, Span, variableSpans, symbolSpans, spans}
 use Rattle.form.specs.Form.{sameWord, distinct, symbolNames, allNames, binds, Shape, Form}
 use Rattle.form.specs.Tokens.{Token, name, sign, tokensAfter, tokens}
 use Rattle.form.specs.Phrase.{Phrase, alternation}
@@ -118,7 +118,8 @@ line-words n l = (forth, back)
     each f (names v) m = lt-ltb v n (f v m)
 
     back : Lined n l → (leb 1 (l .kind) && leb (l .kind) 255 && leb (length (l .parameters)) 4 && all (soundParameter n) (l .parameters)) ≡ true
-    back (a, b, c, f) = ap₂ _&&_ (ap₂ _&&_ (in-range 1 255 (l .kind) a b) (le-leb (length (l .parameters)) 4 c)) (all-of (soundParameter n) (l .parameters) (each f))
+    back (a, b, c, f) =
+        ap₂ _&&_ (ap₂ _&&_ (in-range 1 255 (l .kind) a b) (le-leb (length (l .parameters)) 4 c)) (all-of (soundParameter n) (l .parameters) (each f))
 
 -- all of "The book" but its last sentence on words
 pub shape-words : (s : Bytes) (d : Declarations) (r : Regex)
@@ -158,8 +159,8 @@ shape-words s d r = (
   },
 )
 
--- The text that declarations and a pattern write, byte by byte: `vars` and the variables, a line for each symbol, `match`, a space, the pattern; a space before each
--- word but the first of a line, LF (10) at each line's end.
+-- The text that declarations and a pattern write, byte by byte: `vars` and the variables, a line for each symbol, `match`, a space, the pattern; a
+-- space before each word but the first of a line, LF (10) at each line's end.
 abbrev pub argumentWritten : List Bytes → Parameter → Bytes
 argumentWritten variables ignored = 95 ∷ []
 argumentWritten variables (names v) = getD variables v []
@@ -196,7 +197,8 @@ text-words d p =
     ap (λ z. z ++ (ascii "match" ++ (32 ∷ p ++ (10 ∷ [])))) (ap₂ _++_ (ap (λ z. ascii "vars" ++ (z ++ (10 ∷ []))) (spaced-gather (d .variables)))
     (lines-written (d .variables) (d .symbols)))
 
--- The tokens of a pattern: spaces are none, a byte that begins no name is one, and a name is read as long as it goes: up to the end, or a byte that is none of a name.
+-- The tokens of a pattern: spaces are none, a byte that begins no name is one, and a name is read as long as it goes: up to the end, or a byte that is
+-- none of a name.
 abbrev pub nameEnds : Bytes → Bool
 nameEnds [] = true
 nameEnds (b ∷ l) = not (isNameByte b)
@@ -228,7 +230,10 @@ arguments-of (l ∷ ls) zero = refl
 arguments-of (l ∷ ls) (suc a) = arguments-of ls a
 
 pub binds-words : (d : Declarations) (v a : ℕ) → (binds d v a ≡ true) ↔ List·Memᴰ (names v) (argumentsOf (d .symbols) a)
-binds-words d v a = (λ h. forth (argumentsOf (d .symbols) a) (rw (arguments-of (d .symbols) a) at h), λ m. rw (arguments-of (d .symbols) a) (any-of (Book.binds v) m (eq-eqb v v refl)))
+binds-words d v a = (
+  λ h. forth (argumentsOf (d .symbols) a) (rw (arguments-of (d .symbols) a) at h),
+  λ m. rw (arguments-of (d .symbols) a) (any-of (Book.binds v) m (eq-eqb v v refl)),
+)
   where
     same : (p : Parameter) → Book.binds v p ≡ true → p ≡ names v
     same ignored h = absurd (true≢false (sym h))

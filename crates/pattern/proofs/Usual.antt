@@ -1,6 +1,6 @@
--- "Position q follows p, begins, or ends a word in the usual position-automaton sense": write each occurrence as its own position (`marked`); then p begins iff it is
--- the first of a word, ends iff it is the last of one, and q follows p iff the two stand side by side in one. `positions` says of the paths together that
--- they spell the words; this fixes each mask bit by bit, also where one symbol occurs twice.
+-- "Position q follows p, begins, or ends a word in the usual position-automaton sense": write each occurrence as its own position (`marked`); then p
+-- begins iff it is the first of a word, ends iff it is the last of one, and q follows p iff the two stand side by side in one. `positions` says of the
+-- paths together that they spell the words; this fixes each mask bit by bit, also where one symbol occurs twice.
 use mathlib.Core.Path.{_≡_, refl, sym, ap, ap₂, subst, subst⁻¹, _∙_}
 use mathlib.Core.Bool.{Bool, true, false, cond, _&&_, _||_}
 use mathlib.Core.List.{List, [], _∷_, _++_, append-assoc, append-nil}
@@ -78,9 +78,13 @@ two p n f g x y = by (ltb p n) refl
 own : (r : Regex) (k p : ℕ) → Among r k p → symbolAt (marked r k) k p ≡ p
 own (lit a) k p h = omega (arith, h .low, h .high)
 own (cat r s) k p h =
-    rw (size-marked r k) (two p (k + size r) _ _ (λ l. own r k p (record { low = h .low; high = l })) (λ l. own s (k + size r) p (record { low = l; high = omega (arith, h .high) })))
+    rw (size-marked r k)
+    (two p (k + size r) _ _ (λ l. own r k p (record { low = h .low; high = l }))
+    (λ l. own s (k + size r) p (record { low = l; high = omega (arith, h .high) })))
 own (alt r s) k p h =
-    rw (size-marked r k) (two p (k + size r) _ _ (λ l. own r k p (record { low = h .low; high = l })) (λ l. own s (k + size r) p (record { low = l; high = omega (arith, h .high) })))
+    rw (size-marked r k)
+    (two p (k + size r) _ _ (λ l. own r k p (record { low = h .low; high = l }))
+    (λ l. own s (k + size r) p (record { low = l; high = omega (arith, h .high) })))
 own (star r) k p h = own r k p (record { low = h .low; high = h .high })
 own (plus r) k p h = own r k p (record { low = h .low; high = h .high })
 own (opt r) k p h = own r k p (record { low = h .low; high = h .high })
@@ -116,7 +120,8 @@ abbrev Lead : Regex → ℕ → ℕ → Type 0
 Lead r k p = (u : List ℕ) × ((w : List ℕ) → After r k p w → In r (u ++ (symbolAt r k p ∷ w)))
 
 -- one part and then another: the tail of the first goes before the second
-through : (A B : List ℕ → Type 0) (u : List ℕ) (c : ℕ) (F : List ℕ → Type 0) → ((w : List ℕ) → F w → A (u ++ (c ∷ w))) → (w : List ℕ) → Then F B w → Then A B (u ++ (c ∷ w))
+through : (A B : List ℕ → Type 0) (u : List ℕ) (c : ℕ) (F : List ℕ → Type 0) → ((w : List ℕ) → F w → A (u ++ (c ∷ w)))
+    → (w : List ℕ) → Then F B w → Then A B (u ++ (c ∷ w))
 through A B u c F f w (x, y, e, a, b) = (u ++ (c ∷ x), y, rw e (sym (append-assoc u (c ∷ x) y)), f x a, b)
 
 lead : (r : Regex) (k p : ℕ) → Among r k p → Lead r k p
@@ -182,8 +187,10 @@ module _ (r : Regex) where
 
       back : ((w : List ℕ) × In (marked r 1) (p ∷ w)) → Has p (beginning r 1)
       back (w, t) =
-          elim (begin (marked r 1) 1 p w .0 t)
-          [ via q h e s ↦ subst (λ x. Has x (beginning r 1)) (sym (own r 1 q (among (beginning-among (marked r 1) 1 q h))) ∙ e) (rw (begins-marked r 1 1) at h) ]
+          elim (begin (marked r 1) 1 p w .0 t) [
+            | via q h e s ↦ subst (λ x. Has x (beginning r 1)) (sym (own r 1 q (among (beginning-among (marked r 1) 1 q h))) ∙ e)
+                (rw (begins-marked r 1 1) at h)
+          ]
 
   ends-word : (p : ℕ) → Has p (ending r 1) ↔ ((w : List ℕ) × In (marked r 1) (w ++ (p ∷ [])))
   ends-word p = (forth, λ (w, t). rw (ends-marked r 1 1) at (end (marked r 1) 1 p .0 (found p [] (site (marked r 1) w p [] t))))
