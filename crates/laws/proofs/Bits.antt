@@ -113,6 +113,11 @@ unfolding bit
 bit-down zero p m = rw (zero-add, div-one)
 bit-down (suc k) p m = rw (suc-add, ← one-add k, ← shr-shr m 1 k) (bit-down k p (m / 2))
 
+-- bit p counts 2 to the p
+pub bit-words : (p m : ℕ) → bit p m ≡ eqb (m / 2 ^ p % 2) 1
+unfolding bit
+bit-words p m = sym (bit-down p 0 m ∙ ap (λ k. bit k m) (add-zero p))
+
 -- cutting a number off at k bits keeps the bits below k
 pub bit-cut : (k p m : ℕ) → p < k → bit p (m % 2 ^ k) ≡ bit p m
 unfolding bit

@@ -1,20 +1,24 @@
 -- The words that Judged and Reasons use of a text's places, written out: on which line a place is and how many words have begun there (`spot-words`),
--- where a word begins and ends (`word-words`), and which tokens begin a pattern (`begins-words`).
+-- where a word begins and ends (`word-words`), which lines stand before the pattern's and which is that line (`line-words`), where a token begins
+-- (`token-words`), which names are declared (`named-words`), and which tokens begin a pattern (`begins-words`).
 use mathlib.Core.Path.{_≡_, refl, sym, ap, ap₂, _∙_}
-use mathlib.Core.Bool.{Bool, true, false, not, _&&_, true≢false}
+use mathlib.Core.Bool.{Bool, true, false, cond, not, _&&_, _||_, true≢false}
 use mathlib.Core.List.{List, [], _∷_, _++_}
 use mathlib.Core.Logic.{_↔_, _⊎_, inl, inr, ⊎-elim}
 use Prim.Native.Nat.{ℕ, suc, _+_, _-_, _≤_, _<_}
+use native.Mathlib.Omega.{arith}
 use lib.Dec.{eqb}
-use lib.ListN.{length, take, drop}
+use lib.ListN.{length, getD, take, drop, length-append}
 use borrow.Author.Tests.{eqb-true, eq-eqb, ne-eqb}
+use Rattle.laws.specs.Lists.{all}
 use Rattle.laws.proofs.Lists.{and-true-split}
 use Rattle.pattern.specs.Regex.{Regex}
-use Rattle.form.specs.Text.{Bytes}
+use Rattle.form.specs.Text.{Bytes, ascii, isLower, isDigit, isNameByte}
 use Rattle.form.specs.Tokens.{Token}
 use Rattle.form.specs.Phrase.{Phrase, alternation}
 use Rattle.form.specs.Scan.{at, isWordByte, wordEnd}
-use Rattle.fault.specs.Places.{spotAt, Word, wordAt, Begins, Pattern}
+use Rattle.fault.specs.Places.{spotAt, On, Ends, Word, wordAt, NoMatch, Header, PatternLine, inName, patternBytes, TokenAt, Begins, Pattern}
+use Rattle.fault.specs.Fault.{VariableNamed, SymbolNamed}
 use Rattle.least.proofs.Spots.{spot-zero, spot-step, word-end, word-bytes}
 
 -- "from 0": the first line, no word yet. Behind LF (10) another line begins; behind a space (32) no word goes on; behind any other byte one does, a new
@@ -62,6 +66,83 @@ word-words s k i p = (
   ),
   λ w. let (l, m, o) = word-end s w in
       (refl, l, m, ⊎-elim (λ e. inl e) (λ e. inr (no-word (at s (wordEnd s p)) e)) o, λ q a b. word-byte (at s q) (word-bytes s w q a b)),
+)
+
+-- "Last line: `match`": the first line behind line 0 whose first word is `match`. No such line stands before line k; nor is line k one; line k is it.
+pub line-words : (s : Bytes) (k p : ℕ)
+    → (NoMatch s k ↔ ((j q : ℕ) → 1 ≤ j → j < k → Word s j 0 q → wordAt s q ≡ ascii "match" → ⊥))
+    × (Header s k ↔ ((j q : ℕ) → 1 ≤ j → j ≤ k → Word s j 0 q → wordAt s q ≡ ascii "match" → ⊥))
+    × (PatternLine s k p ↔ (Word s k 0 p × (wordAt s p ≡ ascii "match") × (1 ≤ k) × NoMatch s k))
+    × (On s k p ↔ (spotAt s p .line ≡ k)) × (Ends s p ↔ ((at s p ≡ 10) ⊎ (p ≡ length s)))
+line-words s k p = (
+  (λ h. h, λ h. h),
+  (λ h j q a b. h j q a (omega arith), λ h j q a b. h j q a (omega arith)),
+  (λ l. (l .word, l .match, l .behind, l .first), λ (w, m, b, f). record { word = w; match = m; behind = b; first = f }),
+  (λ h. h, λ h. h),
+  (λ h. h, λ h. h),
+)
+
+-- bytes end in a name that may go on: a letter stands in them, and only bytes of a name behind it
+abbrev pub Goes : Bytes → Type 0
+Goes l = (u : Bytes) × (b : ℕ) × (v : Bytes) × (l ≡ u ++ (b ∷ v)) × (isLower b ≡ true) × (all isNameByte v ≡ true)
+
+none-goes : Goes [] → ⊥
+none-goes (u, b, v, e, h, k) = omega (arith, ap length e, length-append u (b ∷ v))
+
+-- the same where one may have been begun before them
+goes-on : (o : Bool) (l : Bytes) → (inName o l ≡ true) ↔ (((o ≡ true) × (all isNameByte l ≡ true)) ⊎ Goes l)
+goes-on o [] = (λ h. inl (h, refl), λ r. ⊎-elim (λ x. x .0) (λ x. absurd (none-goes x)) r)
+goes-on o (c ∷ l) = let ih = goes-on (cond o (isNameByte c) (isLower c)) l in (λ h. forth o (ih .0 h), λ r. ih .1 (back o r))
+  where
+    forth : (o : Bool) → ((cond o (isNameByte c) (isLower c) ≡ true) × (all isNameByte l ≡ true)) ⊎ Goes l
+        → ((o ≡ true) × ((isNameByte c && all isNameByte l) ≡ true)) ⊎ Goes (c ∷ l)
+    forth true (inl (a, b)) = inl (refl, ap₂ _&&_ a b)
+    forth false (inl (a, b)) = inr ([], c, l, refl, a, b)
+    forth o (inr (u, b, v, e, h, k)) = inr (c ∷ u, b, v, ap (c ∷_) e, h, k)
+
+    first : (o : Bool) → isLower c ≡ true → cond o (isNameByte c) (isLower c) ≡ true
+    first true h = ap (λ t. t || isDigit c) h
+    first false h = h
+
+    back : (o : Bool) → ((o ≡ true) × ((isNameByte c && all isNameByte l) ≡ true)) ⊎ Goes (c ∷ l)
+        → ((cond o (isNameByte c) (isLower c) ≡ true) × (all isNameByte l ≡ true)) ⊎ Goes l
+    back true (inl (a, b)) = inl (and-true-split (isNameByte c) (all isNameByte l) b)
+    back false (inl (a, b)) = absurd (true≢false (sym a))
+    back o (inr ([], b, v, e, h, k)) = inl (first o (ap isLower (ap (λ x. getD x 0 0) e) ∙ h), ap (all isNameByte) (ap (drop 1) e) ∙ k)
+    back o (inr (x ∷ u, b, v, e, h, k)) = inr (u, b, v, ap (drop 1) e, h, k)
+
+-- a token begins at q, in the pattern of line k, whose `match` stands at p: a byte that is no space behind that word and a space, with which no name
+-- goes on that stands before it
+pub token-words : (s : Bytes) (k p q : ℕ)
+    → TokenAt s k p q
+    ↔ ((p + 6 ≤ q) × (q < length s) × (spotAt s q .line ≡ k) × (at s q ≡ 10 → ⊥) × (at s q ≡ 32 → ⊥)
+    × (Goes (take (q - (p + 6)) (drop (p + 6) s)) → isNameByte (at s q) ≡ true → ⊥))
+token-words s k p q = (
+  λ t. (t .behind, t .present, t .on, t .inLine, λ e. true≢false (sym (eq-eqb (at s q) 32 e) ∙ t .byte), apart (t .begins)),
+  λ (a, b, c, d, e, f). record { behind = a; present = b; on = c; inLine = d; byte = ne-eqb (at s q) 32 e; begins = parted f },
+)
+  where
+    l : Bytes
+    l = patternBytes s p q
+
+    apart : (inName false l && isNameByte (at s q)) ≡ false → Goes l → isNameByte (at s q) ≡ true → ⊥
+    apart h g n = true≢false (sym (ap₂ _&&_ (goes-on false l .1 (inr g)) n) ∙ h)
+
+    parted : (Goes l → isNameByte (at s q) ≡ true → ⊥) → (inName false l && isNameByte (at s q)) ≡ false
+    parted f = go (inName false l) (isNameByte (at s q)) refl refl
+      where
+        go : (x y : Bool) → inName false l ≡ x → isNameByte (at s q) ≡ y → (x && y) ≡ false
+        go false y a b = refl
+        go true false a b = refl
+        go true true a b = ⊎-elim (λ x. absurd (true≢false (sym (x .0)))) (λ g. absurd (f g b)) (goes-on false l .0 a)
+
+-- "variable names" are words 1 to 4 of the first line; a symbol's NAME is word 1 of its line, before line k
+pub named-words : (s w : Bytes) (k : ℕ)
+    → (VariableNamed s w ↔ ((i : ℕ) × (q : ℕ) × Word s 0 i q × (1 ≤ i) × (i ≤ 4) × (wordAt s q ≡ w)))
+    × (SymbolNamed s k w ↔ ((j : ℕ) × (q : ℕ) × (1 ≤ j) × (j < k) × Word s j 1 q × (wordAt s q ≡ w)))
+named-words s w k = (
+  (λ (i, q, x, d, e). ⊎-elim (λ (z, a, b). (i, q, x, a, b, e)) (λ (a, b). absurd (omega arith)) d, λ (i, q, x, a, b, e). (i, q, x, inl (refl, a, b), e)),
+  (λ x. x, λ x. x),
 )
 
 -- "the first token that cannot stand": tokens begin a pattern where some further tokens make them one, of any names, depth and length

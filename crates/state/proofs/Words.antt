@@ -1,10 +1,11 @@
 -- A state as it is stored and as it is read back, in words, of any state: what is held stands in the first places, in its order, with its values and
 -- its exclusions; what no count reaches is zero or free. For the buyer, beside `accepted-leaves` and `fresh-state`.
-use mathlib.Core.Path.{_≡_, refl}
+use mathlib.Core.Path.{_≡_, refl, ap}
 use mathlib.Core.Bool.{true, false}
-use mathlib.Core.List.{List, [], _++_, map}
-use Prim.Native.Nat.{ℕ, _-_}
-use lib.ListN.{length, take, replicate}
+use mathlib.Core.List.{List, [], _∷_, _++_, map}
+use Prim.Native.Nat.{ℕ, zero, suc, _-_, _<_}
+use native.Mathlib.Omega.{arith}
+use lib.ListN.{length, getD, take, replicate}
 use Rattle.laws.specs.Parts.{pad}
 use Rattle.meaning.specs.Labels as Labels
 use Rattle.meaning.specs.Labels.{bound, free}
@@ -46,6 +47,21 @@ pub state-stored : (s : Labels.State)
     }
 unfolding stateOf disjunctOf slotOf pad
 state-stored s = refl
+
+-- position and disjunct with one number stand together, from the first on
+pub held-words : (ps : List ℕ) (l : List Labels.Disjunct) → length ps ≡ length l
+    → (length (heldOf ps l) ≡ length ps)
+    × ((i : ℕ) (h : Labels.Held) → i < length ps → getD (heldOf ps l) i h ≡ record { position = getD ps i 0; disjunct = getD l i [] })
+held-words [] [] e = (refl, λ i h k. absurd (omega arith))
+held-words [] (D ∷ l) e = absurd (omega arith)
+held-words (p ∷ ps) [] e = absurd (omega arith)
+held-words (p ∷ ps) (D ∷ l) e = let (n, at) = held-words ps l (omega arith) in (ap suc n, go at)
+  where
+    go : ((i : ℕ) (h : Labels.Held) → i < length ps → getD (heldOf ps l) i h ≡ record { position = getD ps i 0; disjunct = getD l i [] })
+        → (i : ℕ) (h : Labels.Held) → i < suc (length ps)
+        → getD (record { position = p; disjunct = D } ∷ heldOf ps l) i h ≡ record { position = getD (p ∷ ps) i 0; disjunct = getD (D ∷ l) i [] }
+    go at zero h k = refl
+    go at (suc i) h k = at i h (omega arith)
 
 pub state-read : (n : ℕ) (s : State)
     → heldFirst n s ≡ heldOf (take (s .count) (s .positions)) (map (λ d. take n (map viewSlot (d .vars))) (take (s .count) (s .pool)))
