@@ -1,6 +1,7 @@
 -- The words that Judged and Reasons use of a text's places, written out: on which line a place is and how many words have begun there (`spot-words`),
--- where a word begins and ends (`word-words`), which lines stand before the pattern's and which is that line (`line-words`), where a token begins
--- (`token-words`), which names are declared (`named-words`), and which tokens begin a pattern (`begins-words`).
+-- where a word begins and ends (`word-words`), how far spaces go (`space-words`), which lines stand before the pattern's and which is that line
+-- (`line-words`), where a token begins (`token-words`), which it is and which stand before it (`token-read`), what is counted of them (`token-counts`),
+-- which names are declared (`named-words`), and which tokens begin a pattern (`begins-words`).
 use mathlib.Core.Path.{_≡_, refl, sym, ap, ap₂, _∙_}
 use mathlib.Core.Bool.{Bool, true, false, cond, not, _&&_, _||_, true≢false}
 use mathlib.Core.List.{List, [], _∷_, _++_}
@@ -9,17 +10,21 @@ use Prim.Native.Nat.{ℕ, suc, _+_, _-_, _≤_, _<_}
 use native.Mathlib.Omega.{arith}
 use lib.Dec.{eqb}
 use lib.ListN.{length, getD, take, drop, length-append}
+use lib.Seq.{getD-drop}
 use borrow.Author.Tests.{eqb-true, eq-eqb, ne-eqb}
 use Rattle.laws.specs.Lists.{all}
 use Rattle.laws.proofs.Lists.{and-true-split}
 use Rattle.pattern.specs.Regex.{Regex}
 use Rattle.form.specs.Text.{Bytes, ascii, isLower, isDigit, isNameByte}
-use Rattle.form.specs.Tokens.{Token}
+use Rattle.form.specs.Tokens.{Token, name, sign, tokens}
 use Rattle.form.specs.Phrase.{Phrase, alternation}
-use Rattle.form.specs.Scan.{at, isWordByte, wordEnd}
-use Rattle.fault.specs.Places.{spotAt, On, Ends, Word, wordAt, NoMatch, Header, PatternLine, inName, patternBytes, TokenAt, Begins, Pattern}
+use Rattle.form.specs.Scan.{at, isSpace, isWordByte, spacesEnd, wordEnd, nameEnd}
+use Rattle.parsing.proofs.Scans.{run-behind, spacesEnd-ge, nameEnd-gt, nameEnd-le, inside-of}
+use Rattle.fault.specs.Places.{spotAt, On, Ends, Word, wordAt, NoMatch, Header, PatternLine}
+use Rattle.fault.specs.Places.{inName, patternBytes, TokenAt, before, nameAt, tokenAt, occurrences, signs, Begins, Pattern}
 use Rattle.fault.specs.Fault.{VariableNamed, SymbolNamed}
 use Rattle.least.proofs.Spots.{spot-zero, spot-step, word-end, word-bytes}
+use Rattle.least.proofs.TokenPlaces.{spaces-bytes, name-bytes}
 
 -- "from 0": the first line, no word yet. Behind LF (10) another line begins; behind a space (32) no word goes on; behind any other byte one does, a new
 -- one where none did before.
@@ -66,6 +71,15 @@ word-words s k i p = (
   ),
   λ w. let (l, m, o) = word-end s w in
       (refl, l, m, ⊎-elim (λ e. inl e) (λ e. inr (no-word (at s (wordEnd s p)) e)) o, λ q a b. word-byte (at s q) (word-bytes s w q a b)),
+)
+
+-- from p on, up to the first byte that is no space
+pub space-words : (s : Bytes) (p : ℕ) → let e = spacesEnd s p in (p ≤ e) × ((q : ℕ) → p ≤ q → q < e → at s q ≡ 32) × (at s e ≡ 32 → ⊥)
+unfolding spacesEnd
+space-words s p = (
+  spacesEnd-ge s p,
+  λ q a b. spaces-bytes s p q a b,
+  λ x. true≢false (sym (ap isSpace x) ∙ ap isSpace (sym (getD-drop p s _ 256)) ∙ run-behind isSpace refl (drop p s)),
 )
 
 -- "Last line: `match`": the first line behind line 0 whose first word is `match`. No such line stands before line k; nor is line k one; line k is it.
@@ -135,6 +149,33 @@ token-words s k p q = (
         go false y a b = refl
         go true false a b = refl
         go true true a b = ⊎-elim (λ x. absurd (true≢false (sym (x .0)))) (λ g. absurd (f g b)) (goes-on false l .0 a)
+
+-- the token that begins there, a name being "read as long as it goes", and those before it
+pub token-read : (s : Bytes) (p q : ℕ)
+    → (before s p q ≡ tokens (take (q - (p + 6)) (drop (p + 6) s)))
+    × (isLower (at s q) ≡ false → tokenAt s q ≡ sign (at s q))
+    × (isLower (at s q) ≡ true → let e = nameEnd s q in (tokenAt s q ≡ name (nameAt s q)) × (nameAt s q ≡ take (e - q) (drop q s)) × (q < e) × (e ≤ length s)
+    × ((r : ℕ) → q ≤ r → r < e → isNameByte (at s r) ≡ true) × (isNameByte (at s e) ≡ false))
+unfolding nameEnd
+token-read s p q = (
+  refl,
+  λ e. rw e refl,
+  λ e. (
+    rw e refl,
+    refl,
+    nameEnd-gt s q e,
+    nameEnd-le s q (omega (arith, inside-of isLower refl s q e)),
+    λ r a b. name-bytes s q r e a b,
+    rw e (ap isNameByte (sym (getD-drop q s _ 256)) ∙ run-behind isNameByte refl (drop q s)),
+  ),
+)
+
+-- names and signs, one by one
+pub token-counts : (b c : ℕ) (w : Bytes) (ts : List Token)
+    → (occurrences [] ≡ 0) × (occurrences (name w ∷ ts) ≡ suc (occurrences ts)) × (occurrences (sign b ∷ ts) ≡ occurrences ts)
+    × (signs b [] ≡ 0) × (signs b (name w ∷ ts) ≡ signs b ts) × (signs b (sign b ∷ ts) ≡ suc (signs b ts))
+    × ((c ≡ b → ⊥) → signs b (sign c ∷ ts) ≡ signs b ts)
+token-counts b c w ts = (refl, refl, refl, refl, refl, rw (eq-eqb b b refl) refl, λ n. rw (ne-eqb c b n) refl)
 
 -- "variable names" are words 1 to 4 of the first line; a symbol's NAME is word 1 of its line, before line k
 pub named-words : (s w : Bytes) (k : ℕ)
