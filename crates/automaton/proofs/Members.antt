@@ -139,3 +139,9 @@ positions-words b q = (
   λ m. let (low, high) = mem-numbers q 1 (length (b .occurrences)) .0 m in (low, omega arith),
   λ (low, high). mem-numbers q 1 (length (b .occurrences)) .1 (low, omega arith),
 )
+
+-- "Held disjuncts stand by position": all new labels together, one position's behind another's, from the first on
+pub newHeld-words : (b : Book) (held : List Held) (e : Event)
+    → newHeld b held e ≡ gather (λ p. map (λ D. record { position = p; disjunct = D }) (newLabel b held e p)) (numbers 1 (length (b .occurrences)))
+unfolding newHeld
+newHeld-words b held e = refl

@@ -168,7 +168,7 @@ less-is Ordering·lt = (λ _. refl, λ _. refl)
 less-is Ordering·eq = (λ h. absurd (false≢true h), λ h. ap isLess h)
 less-is Ordering·gt = (λ h. absurd (false≢true h), λ h. ap isLess h)
 
-ascending-words : {A : Type 0} (cmp : A → A → Ordering) (d : A) (l : List A)
+pub ascending-words : {A : Type 0} (cmp : A → A → Ordering) (d : A) (l : List A)
     → (ascending cmp l ≡ true) ↔ ((i : ℕ) → suc i < length l → cmp (getD l i d) (getD l (suc i) d) ≡ Ordering·lt)
 ascending-words cmp d [] = (λ _ i h. absurd (omega (arith, h)), λ _. refl)
 ascending-words cmp d (x ∷ []) = (λ _ i h. absurd (omega (arith, h)), λ _. refl)

@@ -17,32 +17,33 @@ use Rattle.fault.specs.Fault.{notVars, notSym, seventeenth, noName, longName, a
 use Rattle.fault.specs.Fault.{undeclaredArgument, symbolArgument, fifthVariable, fifthArgument}
 use Rattle.fault.specs.Fault.{spaceFirst, spaceTwice, spaceLast, missingWord, missingSym, missingSpace, missingToken, missingLF, after}
 use Rattle.fault.specs.Fault.{longToken, thirtySecond, seventeenthOpen, undeclaredName, variableName, misplaced}
+use Rattle.least.proofs.Sites.{Clean}
 use Rattle.least.proofs.Refused.{refused}
 
 module _ (s : Bytes) (q : ℕ) where
   -- word number i of line k begins at q, on the lines before the pattern's; a token begins at q, in the pattern of line k, whose `match` stands at p
-  abbrev AtWord : (ℕ → ℕ → Type 0) → Type 0
+  abbrev pub AtWord : (ℕ → ℕ → Type 0) → Type 0
   AtWord P = (k : ℕ) × (i : ℕ) × Word s k i q × Header s k × P k i
 
-  abbrev AtToken : (ℕ → ℕ → Type 0) → Type 0
+  abbrev pub AtToken : (ℕ → ℕ → Type 0) → Type 0
   AtToken P = (k : ℕ) × (p : ℕ) × PatternLine s k p × (at s (p + 5) ≡ 32) × TokenAt s k p q × P k p
 
   -- the words that declare, and those that are arguments
-  abbrev Declaring : ℕ → ℕ → Type 0
+  abbrev pub Declaring : ℕ → ℕ → Type 0
   Declaring k i = ((k ≡ 0) × (1 ≤ i) × (i ≤ 4)) ⊎ ((1 ≤ k) × (i ≡ 1))
 
-  abbrev Arguing : ℕ → ℕ → Type 0
+  abbrev pub Arguing : ℕ → ℕ → Type 0
   Arguing k i = (1 ≤ k) × (3 ≤ i) × (i ≤ 6)
 
   -- 2: no `vars`, no `sym`; no name; no KIND; no argument
-  abbrev WordTwo : ℕ → ℕ → Type 0
+  abbrev pub WordTwo : ℕ → ℕ → Type 0
   WordTwo k i =
       ((k ≡ 0) × (i ≡ 0) × (wordAt s q ≡ ascii "vars" → ⊥)) ⊎ (((1 ≤ k) × (i ≡ 0) × (wordAt s q ≡ ascii "sym" → ⊥))
       ⊎ ((Declaring k i × (isNameForm (wordAt s q) ≡ false)) ⊎ (((1 ≤ k) × (i ≡ 2) × ((n : ℕ) → 1 ≤ n → n ≤ 255 → wordAt s q ≡ decimal n → ⊥))
       ⊎ (Arguing k i × (wordAt s q ≡ ascii "_" → ⊥) × (isNameForm (wordAt s q) ≡ false)))))
 
   -- 2: a space too many; a word that is missing; `match` before any `sym`, or no space behind it; no LF; something behind the last line
-  abbrev Two : Type 0
+  abbrev pub Two : Type 0
   Two =
       AtWord WordTwo
       ⊎ (((k : ℕ) × On s k q × NoMatch s k × (at s q ≡ 32) × (spotAt s q .words ≡ 0))
@@ -55,37 +56,37 @@ module _ (s : Bytes) (q : ℕ) where
       ⊎ ((k : ℕ) × (p : ℕ) × (e : ℕ) × PatternLine s k p × On s k e × (at s e ≡ 10) × (e + 1 < length s) × (q ≡ e + 1)))))))))
 
   -- 3: a seventeenth `sym`; a name over 12 bytes; a fifth variable, a fifth argument; a thirty-second occurrence; a seventeenth open parenthesis
-  abbrev WordThree : ℕ → ℕ → Type 0
+  abbrev pub WordThree : ℕ → ℕ → Type 0
   WordThree k i =
       ((k ≡ 17) × (i ≡ 0) × (wordAt s q ≡ ascii "sym"))
       ⊎ (((Declaring k i ⊎ Arguing k i) × (isNameForm (wordAt s q) ≡ true) × (12 < length (wordAt s q)))
       ⊎ (((k ≡ 0) × (i ≡ 5)) ⊎ ((1 ≤ k) × (i ≡ 7))))
 
-  abbrev TokenThree : ℕ → ℕ → Type 0
+  abbrev pub TokenThree : ℕ → ℕ → Type 0
   TokenThree k p =
       ((isLower (at s q) ≡ true) × ((12 < length (nameAt s q)) ⊎ (31 ≤ occurrences (before s p q))))
       ⊎ ((at s q ≡ 40) × (16 + signs 41 (before s p q) ≤ signs 40 (before s p q)))
 
   -- 4: a name that a word before it declares
-  abbrev WordFour : ℕ → ℕ → Type 0
+  abbrev pub WordFour : ℕ → ℕ → Type 0
   WordFour k i = Declaring k i × ((j : ℕ) × (h : ℕ) × (p : ℕ) × Word s j h p × Declaring j h × (p < q) × (wordAt s p ≡ wordAt s q))
 
   -- 5: an argument that is no variable's name; a name in the pattern that is no symbol's
-  abbrev WordFive : ℕ → ℕ → Type 0
+  abbrev pub WordFive : ℕ → ℕ → Type 0
   WordFive k i = Arguing k i × (isNameForm (wordAt s q) ≡ true) × (VariableNamed s (wordAt s q) → ⊥)
 
-  abbrev TokenFive : ℕ → ℕ → Type 0
+  abbrev pub TokenFive : ℕ → ℕ → Type 0
   TokenFive k p = (isLower (at s q) ≡ true) × (SymbolNamed s k (nameAt s q) → ⊥)
 
   -- 6: a token that cannot stand; a token that is missing
-  abbrev TokenSix : ℕ → ℕ → Type 0
+  abbrev pub TokenSix : ℕ → ℕ → Type 0
   TokenSix k p = Begins (before s p q) × (Begins (before s p q ++ (tokenAt s q ∷ [])) → ⊥)
 
-  abbrev NoToken : Type 0
+  abbrev pub NoToken : Type 0
   NoToken =
       (k : ℕ) × (p : ℕ) × PatternLine s k p × (at s (p + 5) ≡ 32) × On s k q × Ends s q × Begins (before s p q) × (Pattern (before s p q) → ⊥)
 
-  abbrev Reason : ℕ → Type 0
+  abbrev pub Reason : ℕ → Type 0
   Reason n =
       ((n ≡ 2) × Two) ⊎ (((n ≡ 3) × (AtWord WordThree ⊎ AtToken TokenThree)) ⊎ (((n ≡ 4) × AtWord WordFour)
       ⊎ (((n ≡ 5) × (AtWord WordFive ⊎ AtToken TokenFive)) ⊎ ((n ≡ 6) × (AtToken TokenSix ⊎ NoToken)))))
@@ -144,3 +145,7 @@ module _ (s : Bytes) (q : ℕ) where
   -- what `read` hands back has its reason
   pub reasons : isBytes s ≡ true → (n : ℕ) → 2 ≤ n → n ≤ 6 → numberOf (reading s .answer) ≡ n → placeOf (reading s .answer) ≡ q → Reason n
   reasons bytes n low high e f = reason (refused s bytes .fault n q low high .0 (e, f) .1 .fault)
+
+-- "no fault stands before p", as Judged has it (`Clean`), in these words: no sentence gives a number to a place before it
+pub clean-words : (s : Bytes) (p : ℕ) → ((q n : ℕ) → q < p → Reason s q n → ⊥) → Clean s p
+clean-words s p h q n l f = h q n l (reason s q f)
