@@ -1,7 +1,7 @@
--- The words that Judged and Reasons use of a text's places, written out: on which line a place is and how many words have begun there (`spot-words`),
--- where a word begins and ends (`word-words`), how far spaces go (`space-words`), which lines stand before the pattern's and which is that line
--- (`line-words`), where a token begins (`token-words`), which it is and which stand before it (`token-read`), what is counted of them (`token-counts`),
--- which names are declared (`named-words`), and which tokens begin a pattern (`begins-words`).
+-- The words that Judged and Reasons use of a text's places, written out: what stands there (`byte-read`), on which line it is and how many words have
+-- begun there (`spot-words`), where a word begins and ends (`word-words`), how far spaces go (`space-words`), which lines stand before the pattern's
+-- and which is that line (`line-words`), where a token begins (`token-words`), which it is and which stand before it (`token-read`), what is counted of
+-- them (`token-counts`), which names are declared (`named-words`), and which tokens begin a pattern (`begins-words`).
 use mathlib.Core.Path.{_≡_, refl, sym, ap, ap₂, _∙_}
 use mathlib.Core.Bool.{Bool, true, false, cond, not, _&&_, _||_, true≢false}
 use mathlib.Core.List.{List, [], _∷_, _++_}
@@ -25,6 +25,10 @@ use Rattle.fault.specs.Places.{inName, patternBytes, TokenAt, before, nameAt, t
 use Rattle.fault.specs.Fault.{VariableNamed, SymbolNamed}
 use Rattle.least.proofs.Spots.{spot-zero, spot-step, word-end, word-bytes}
 use Rattle.least.proofs.TokenPlaces.{spaces-bytes, name-bytes}
+
+-- the byte at a place, and past the end none: a number that no byte is
+pub byte-read : (s : Bytes) (p : ℕ) → at s p ≡ getD s p 256
+byte-read s p = refl
 
 -- "from 0": the first line, no word yet. Behind LF (10) another line begins; behind a space (32) no word goes on; behind any other byte one does, a new
 -- one where none did before.

@@ -4,9 +4,9 @@ use mathlib.Core.Path.{_≡_, refl, sym, ap, ap₂, subst, _∙_}
 use mathlib.Core.Bool.{Bool, true, false, not, _&&_, _||_, true≢false}
 use mathlib.Core.List.{List, [], _∷_, _++_, map, List·Memᴰ, append-assoc, append-nil}
 use mathlib.Core.Logic.{_↔_, _⊎_, inl, inr, ⊎-elim}
-use Prim.Native.Nat.{ℕ, zero, suc, _+_, _≤_, _<_}
+use Prim.Native.Nat.{ℕ, zero, suc, _+_, _/_, _%_, _≤_, _<_}
 use native.Mathlib.Omega.{arith}
-use borrow.Author.Tests.{not-true, leb-true, le-leb, ltb-true, lt-ltb, eqb-true, eq-eqb, ne-eqb}
+use borrow.Author.Tests.{not-true, leb-true, le-leb, ltb-true, lt-ltb, le-ltb, eqb-true, eq-eqb, ne-eqb}
 use lib.Dec.{eqb, leb, ltb}
 use lib.ListN.{length, getD, take, length-append, List·getD-append}
 use lib.Seq.{getD-append-add}
@@ -157,6 +157,17 @@ shape-words s d r = (
     phrase = x;
     occurrences = all31;
   },
+)
+
+-- "without leading zeros": one digit, two or three; 48 is the byte of 0
+pub decimal-words : (n : ℕ)
+    → (n < 10 → decimal n ≡ (48 + n) ∷ []) × (10 ≤ n → n < 100 → decimal n ≡ (48 + n / 10) ∷ (48 + n % 10) ∷ [])
+    × (100 ≤ n → decimal n ≡ (48 + n / 100) ∷ (48 + n / 10 % 10) ∷ (48 + n % 10) ∷ [])
+unfolding decimal
+decimal-words n = (
+  λ h. rw (lt-ltb n 10 h) refl,
+  λ h k. rw (le-ltb n 10 h, lt-ltb n 100 k) refl,
+  λ h. rw (le-ltb n 10 (omega arith), le-ltb n 100 h) refl,
 )
 
 -- The text that declarations and a pattern write, byte by byte: `vars` and the variables, a line for each symbol, `match`, a space, the pattern; a
