@@ -60,7 +60,8 @@ words =
 -- behind a token, which it does not carry on
 abbrev behindToken : List Bytes
 behindToken =
-    [] ∷ ascii " " ∷ ascii "  " ∷ ascii "\n" ∷ ascii " \n" ∷ ascii " a\n" ∷ ascii ")\n" ∷ ascii " )" ∷ ascii "|" ∷ ascii "!" ∷ ascii "\n\n" ∷ ascii "*\n" ∷ []
+    [] ∷ ascii " " ∷ ascii "  " ∷ ascii "\n" ∷ ascii " \n" ∷ ascii " a\n" ∷ ascii ")\n" ∷ ascii " )" ∷ ascii "|" ∷ ascii "!" ∷ ascii "\n\n" ∷ ascii "*\n"
+    ∷ ascii " abcdefghijklm\n" ∷ []
 
 abbrev pattern : Bytes → Bytes
 pattern p = ascii "vars\nsym a 1\nmatch " ++ p
