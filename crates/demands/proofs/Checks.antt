@@ -270,18 +270,35 @@ nine-rules b s bytes buffer place t =
     back (inr (f, (q, m, j, (D, n, y)))) = leftFree f q m j D n y
 
 -- 10, 11 and 13 in their own words: "event record out of form, or not 20 bytes"; "1,000,000 events already accepted"; "row buffer too short, or start place
--- beyond it", which with no rows is just a place beyond the end; and nothing of these at 0
+-- beyond it", which with no rows is just a place beyond the end; and nothing of these at 0. "9 to 13 in that order": each by the numbers before it, so that
+-- no word but `nine-rules` and `twelve-rules` is needed
 pub other-rules : (b : Book) (s : State) (bytes buffer : Bytes) (place : ℕ) (t : Tally)
     → let n = numberOf (taken b s bytes buffer place t .answer) in
-    let held = heldFirst (b .variables) s in
-    let few = length (rows (viewBook b) held (eventIn bytes)) in
-    let Room : Type 0 = Broken (viewBook b) held (eventIn bytes) → ⊥ in
-    ((n ≡ 10) ↔ ((Unsound b s bytes → ⊥) × (isRecord bytes ≡ false)))
-    × ((n ≡ 11) ↔ ((Unsound b s bytes → ⊥) × (isRecord bytes ≡ false → ⊥) × (s .number ≡ 1000000)))
-    × ((n ≡ 13) ↔ ((Unsound b s bytes → ⊥) × (isRecord bytes ≡ false → ⊥) × (s .number ≡ 1000000 → ⊥) × Room × (length buffer < place + 24 * few)))
-    × ((n ≡ 0) ↔ ((Unsound b s bytes → ⊥) × (isRecord bytes ≡ false → ⊥) × (s .number ≡ 1000000 → ⊥) × Room × (length buffer < place + 24 * few → ⊥)))
+    let few = length (rows (viewBook b) (heldFirst (b .variables) s) (eventIn bytes)) in
+    ((n ≡ 10) ↔ ((n ≡ 9 → ⊥) × (isRecord bytes ≡ false)))
+    × ((n ≡ 11) ↔ ((n ≡ 9 → ⊥) × (n ≡ 10 → ⊥) × (s .number ≡ 1000000)))
+    × ((n ≡ 13) ↔ ((n ≡ 9 → ⊥) × (n ≡ 10 → ⊥) × (n ≡ 11 → ⊥) × (n ≡ 12 → ⊥) × (length buffer < place + 24 * few)))
+    × ((n ≡ 0) ↔ ((n ≡ 9 → ⊥) × (n ≡ 10 → ⊥) × (n ≡ 11 → ⊥) × (n ≡ 12 → ⊥) × (n ≡ 13 → ⊥)))
 other-rules b s bytes buffer place t =
-    let f = first-failing b s bytes buffer place t in (f .ten, f .eleven, f .thirteen, f .zero)
+    let f = first-failing b s bytes buffer place t in
+    let u : (n ≡ 9 → ⊥) → Unsound b s bytes → ⊥ = λ a x. a (f .nine .1 x) in
+    let o : (n ≡ 9 → ⊥) → (n ≡ 10 → ⊥) → OutOfForm b s bytes → ⊥ = λ a c x. c (f .ten .1 (u a, x)) in
+    let m : (n ≡ 9 → ⊥) → (n ≡ 10 → ⊥) → (n ≡ 11 → ⊥) → TooMany b s bytes → ⊥ = λ a c d x. d (f .eleven .1 (u a, o a c, x)) in
+    let r : (n ≡ 9 → ⊥) → (n ≡ 10 → ⊥) → (n ≡ 11 → ⊥) → (n ≡ 12 → ⊥) → NoRoom b s bytes → ⊥ = λ a c d k x. k (f .twelve .1 (u a, o a c, m a c d, x)) in (
+      (λ h. (λ y. omega (arith, h, y), f .ten .0 h .1), λ (a, x). f .ten .1 (u a, x)),
+      (λ h. (λ y. omega (arith, h, y), λ y. omega (arith, h, y), f .eleven .0 h .2), λ (a, c, x). f .eleven .1 (u a, o a c, x)),
+      (
+        λ h. (λ y. omega (arith, h, y), λ y. omega (arith, h, y), λ y. omega (arith, h, y), λ y. omega (arith, h, y), f .thirteen .0 h .4),
+        λ (a, c, d, k, x). f .thirteen .1 (u a, o a c, m a c d, r a c d k, x),
+      ),
+      (
+        λ h. (λ y. omega (arith, h, y), λ y. omega (arith, h, y), λ y. omega (arith, h, y), λ y. omega (arith, h, y), λ y. omega (arith, h, y)),
+        λ (a, c, d, k, x). f .zero .1 (u a, o a c, m a c d, r a c d k, λ y. x (f .thirteen .1 (u a, o a c, m a c d, r a c d k, y))),
+      ),
+    )
+  where
+    n : ℕ
+    n = numberOf (taken b s bytes buffer place t .answer)
 
 -- the four rules written out, for the proof below; its statement has them in its own words
 module _ (b : Plain.Book) (held : List Held) (e : Event) where
@@ -315,8 +332,9 @@ pub twelve-rules : (b : Book) (s : State) (bytes buffer : Bytes) (place : ℕ) (
     let held = heldFirst (b .variables) s in
     let e = eventIn bytes in
     let after : (p k : ℕ) → List Disjunct = λ p k. skipThrough (take k (map (λ y. constraintOf y e) (v .symbols))) (labelOf held p) in
-    (numberOf (taken b s bytes buffer place t .answer) ≡ 12)
-    ↔ ((Unsound b s bytes → ⊥) × (OutOfForm b s bytes → ⊥) × (TooMany b s bytes → ⊥)
+    let n = numberOf (taken b s bytes buffer place t .answer) in
+    (n ≡ 12)
+    ↔ ((n ≡ 9 → ⊥) × (n ≡ 10 → ⊥) × (n ≡ 11 → ⊥)
     × (((q : ℕ) × List·Memᴰ q (positions v) × (128 < length (stepSet v held e q)))
     ⊎ (((p : ℕ) × (k : ℕ) × List·Memᴰ p (positions v) × (1 ≤ k) × (k ≤ length (v .symbols)) × (128 < length (after p k)))
     ⊎ (((p : ℕ) × (k : ℕ) × List·Memᴰ p (positions v) × (1 ≤ k) × (k ≤ length (v .symbols))
@@ -325,9 +343,16 @@ pub twelve-rules : (b : Book) (s : State) (bytes buffer : Bytes) (place : ℕ) (
 twelve-rules b s bytes buffer place t =
     let v = viewBook b in
     let held = heldFirst (b .variables) s in
-    let f = first-failing b s bytes buffer place t .twelve in (
-      λ h. let (a, c, d, r) = f .0 h in (a, c, d, ruled v held (eventIn bytes) r),
-      λ (a, c, d, r). f .1 (a, c, d, broken v held (eventIn bytes) r),
+    let f = first-failing b s bytes buffer place t in (
+      λ h. (
+        λ k. omega (arith, h, k),
+        λ k. omega (arith, h, k),
+        λ k. omega (arith, h, k),
+        ruled v held (eventIn bytes) (f .twelve .0 h .3),
+      ),
+      λ (a, c, d, r). let u : Unsound b s bytes → ⊥ = λ x. a (f .nine .1 x) in
+          let o : OutOfForm b s bytes → ⊥ = λ x. c (f .ten .1 (u, x)) in
+          f .twelve .1 (u, o, λ x. d (f .eleven .1 (u, o, x)), broken v held (eventIn bytes) r),
     )
 
 -- what an accepted call hands back and leaves, for any book and state: the next state as a state is stored, what no count reaches zero or free; the

@@ -1,5 +1,6 @@
 -- The laws of the definitions in ../specs, a file for each; sets under a map (Maps); lists and sets that code keeps in arrays (Arrays), the
--- turns of loops over such a set (Turns) and arrays that a loop fills (Fills); what is known of lent bytes (Slices).
+-- turns of loops over such a set (Turns) and arrays that a loop fills (Fills); what is known of lent bytes (Slices);
+-- the words that public statements use, written out (Words).
 pub mod Lists
 pub mod Bits
 pub mod Order
@@ -10,3 +11,4 @@ pub mod Arrays
 pub mod Turns
 pub mod Fills
 pub mod Slices
+pub mod Words

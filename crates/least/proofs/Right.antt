@@ -1,9 +1,10 @@
 -- No reason where there is none: lines that declare, whatever the pattern's line is, have no fault (`right-lines`); what is counted as occurrences,
--- token by token, are the pattern's positions (`occurrences-counted`); which words have the form of a name (`name-form-words`). Limits are written out.
+-- token by token, are the pattern's positions (`occurrences-counted`); which words have the form of a name (`name-form-words`); where 7 and 8 stand
+-- (`first-token`). Limits are written out.
 use mathlib.Core.Path.{_≡_, refl, sym, ap, ap₂, _∙_}
 use mathlib.Core.Bool.{Bool, true, false, _&&_, true≢false}
 use mathlib.Core.List.{List, [], _∷_, _++_, List·Memᴰ}
-use mathlib.Core.Logic.{_↔_, _⊎_}
+use mathlib.Core.Logic.{_↔_, _⊎_, inr, ⊎-elim}
 use Prim.Native.Nat.{ℕ, _+_, _≤_, _<_}
 use native.Mathlib.Omega.{arith}
 use lib.Dec.{ltb}
@@ -18,14 +19,17 @@ use Rattle.form.specs.Text.{Bytes, isBytes, ascii, isLower, isNameByte, isName,
 use Rattle.form.specs.Tokens.{Token, sign}
 use Rattle.form.specs.Phrase.{Level, Phrase, symbol, group, plain, starred, plussed, optional, last, then, only, or}
 use Rattle.form.specs.Form.{allNames}
-use Rattle.form.specs.Scan.{run, isWordByte}
+use Rattle.form.specs.Scan.{spacesEnd, run, isWordByte}
 use Rattle.form.specs.Lines.{linesOf}
+use Rattle.form.specs.Reading.{readingOf}
 use Rattle.parsing.proofs.Header.{Header, header-read}
 use Rattle.parsing.proofs.FormWords.{range, in-range, byte-words, Named, name-words, distinct-words, Lined, line-words}
+use Rattle.parsing.proofs.Outcomes.{known, words-first}
 use Rattle.book.specs.Answers.{numberOf, placeOf}
 use Rattle.book.specs.Books.{reading}
+use Rattle.book.proofs.Bench.{answer-number, answer-place}
 use Rattle.fault.specs.Fault.{isNameForm, Fault}
-use Rattle.fault.specs.Places.{occurrences}
+use Rattle.fault.specs.Places.{PatternLine, occurrences}
 use Rattle.fault.specs.Places as Places
 use Rattle.least.proofs.HeaderCourse.{lines-matched}
 use Rattle.least.proofs.HeaderFaults.{matched-ready}
@@ -101,3 +105,14 @@ name-form-words w = (forth w, back w)
 
     back : (w : Bytes) → NameFormed w → isNameForm w ≡ true
     back w (b, l, e, m, n, f) = rw e (ap₂ _&&_ (in-range 97 122 b m n) (all-of isNameByte l (λ c k. byte-words c .1 (f c k))))
+
+-- "7, then 8, after everything, placed at the pattern's first token": on the pattern's line the first byte behind `match` and a space that is no space
+pub first-token : (s : Bytes) → isBytes s ≡ true → (numberOf (reading s .answer) ≡ 7) ⊎ (numberOf (reading s .answer) ≡ 8)
+    → (k : ℕ) × (p : ℕ) × PatternLine s k p × (placeOf (reading s .answer) ≡ spacesEnd s (p + 6))
+first-token s bytes h =
+    let e = answer-number s in
+    let high : 7 ≤ readingOf s .number = ⊎-elim (λ x. omega (arith, e, x)) (λ x. omega (arith, e, x)) h in
+    let w = known s .whole (inr high) in
+    let r = matched-ready s bytes _ _ _ (lines-matched s bytes (w .lines)) in
+    let q : linesOf s .step .place + 1 ≡ r .p + 6 = omega (arith, r .end) in
+    (r .k, r .p, r .line, answer-place s ∙ words-first s w high ∙ ap (spacesEnd s) q)

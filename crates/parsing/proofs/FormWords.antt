@@ -6,7 +6,7 @@ use mathlib.Core.List.{List, [], _∷_, _++_, map, List·Memᴰ, append-assoc, a
 use mathlib.Core.Logic.{_↔_, _⊎_, inl, inr, ⊎-elim}
 use Prim.Native.Nat.{ℕ, zero, suc, _+_, _/_, _%_, _≤_, _<_}
 use native.Mathlib.Omega.{arith}
-use borrow.Author.Tests.{not-true, leb-true, le-leb, ltb-true, lt-ltb, le-ltb, eqb-true, eq-eqb, ne-eqb}
+use borrow.Author.Tests.{not-true, leb-true, le-leb, ltb-true, lt-ltb, le-ltb, eqb-true, eqb-false, eq-eqb, ne-eqb}
 use lib.Dec.{eqb, leb, ltb}
 use lib.ListN.{length, getD, take, length-append, List·getD-append}
 use lib.Seq.{getD-append-add}
@@ -21,6 +21,7 @@ use Rattle.meaning.specs.Book.{soundParameter, soundSymbol}
 use Rattle.form.specs.Text.{Bytes, lf, isLower, isDigit, isNameByte, isName, ascii, decimal, SymbolLine, Declarations, text, header, symbolOf}
 use Rattle.form.specs.Text.{spaced, parameterWord, varsLine, symLine, Span, variableSpans, symbolSpans, spans}
 use Rattle.form.specs.Form.{sameWord, distinct, symbolNames, allNames, binds, Shape, Form}
+use Rattle.form.specs.Scan.{run, isSpace, isWordByte}
 use Rattle.form.specs.Tokens.{Token, name, sign, tokensAfter, tokens}
 use Rattle.form.specs.Phrase.{Phrase, alternation}
 use Rattle.parsing.proofs.Scans.{same-word}
@@ -198,15 +199,19 @@ lines-written : (vs : List Bytes) (ls : List SymbolLine) → gather (symLine vs)
 lines-written vs [] = refl
 lines-written vs (l ∷ ls) = ap₂ _++_ (line-written vs l) (lines-written vs ls)
 
+pub header-words : (d : Declarations)
+    → header d ≡ (ascii "vars" ++ (gather (λ w. 32 ∷ w) (d .variables) ++ (10 ∷ []))) ++ gather (lineWritten (d .variables)) (d .symbols)
+unfolding header
+header-words d =
+    ap₂ _++_ (ap (λ z. ascii "vars" ++ (z ++ (10 ∷ []))) (spaced-gather (d .variables))) (lines-written (d .variables) (d .symbols))
+
 pub text-words : (d : Declarations) (p : Bytes)
     → text d p
     ≡ (ascii "vars" ++ (gather (λ w. 32 ∷ w) (d .variables) ++ (10 ∷ [])))
     ++ gather (lineWritten (d .variables)) (d .symbols)
     ++ (ascii "match" ++ (32 ∷ p ++ (10 ∷ [])))
-unfolding text header
-text-words d p =
-    ap (λ z. z ++ (ascii "match" ++ (32 ∷ p ++ (10 ∷ [])))) (ap₂ _++_ (ap (λ z. ascii "vars" ++ (z ++ (10 ∷ []))) (spaced-gather (d .variables)))
-    (lines-written (d .variables) (d .symbols)))
+unfolding text
+text-words d p = ap (λ z. z ++ (ascii "match" ++ (32 ∷ p ++ (10 ∷ [])))) (header-words d)
 
 -- The tokens of a pattern: spaces are none, a byte that begins no name is one, and a name is read as long as it goes: up to the end, or a byte that is
 -- none of a name.
@@ -312,3 +317,18 @@ places-words d x =
 pub names-words : (d : Declarations)
     → (symbolNames d ≡ map (λ l. l .name) (d .symbols)) × (allNames d ≡ d .variables ++ map (λ l. l .name) (d .symbols))
 names-words d = (refl, refl)
+
+-- how many bytes pass from the first on; spaces, and the bytes of words
+pub run-words : (f : ℕ → Bool) (b : ℕ) (l : Bytes)
+    → (run f [] ≡ 0) × (f b ≡ true → run f (b ∷ l) ≡ suc (run f l)) × (f b ≡ false → run f (b ∷ l) ≡ 0)
+    × ((isSpace b ≡ true) ↔ (b ≡ 32)) × ((isWordByte b ≡ true) ↔ ((b ≡ 32 → ⊥) × (b ≡ 10 → ⊥)))
+run-words f b l = (
+  refl,
+  λ h. rw h refl,
+  λ h. rw h refl,
+  (eqb-true b 32, eq-eqb b 32),
+  (
+    λ h. let (x, y) = and-true-split (not (eqb b 32)) (not (eqb b 10)) h in (eqb-false b 32 (not-true _ x), eqb-false b 10 (not-true _ y)),
+    λ (x, y). rw (ne-eqb b 32 x, ne-eqb b 10 y) refl,
+  ),
+)
