@@ -333,6 +333,10 @@ sound s h =
 pub too-long : (s : Bytes) → (numberOf (reading s .answer) ≡ 1) ↔ (textLimit < length s)
 too-long s = rw (answer-number s) (Accepted.too-long s)
 
+-- "1 first": whatever else the text is, and in no other case; "1, place 4,096"
+pub long-words : (s : Bytes) → ((numberOf (reading s .answer) ≡ 1) ↔ (4096 < length s)) × (4096 < length s → placeOf (reading s .answer) ≡ 4096)
+long-words s = (too-long s, λ h. answer-place s ∙ sym (long-place s (Accepted.too-long s .1 h)))
+
 -- where 7 and 8 stand
 pub words-place : (s : Bytes) (d : Declarations) (r : Regex) (f : Shape s d r) → (numberOf (reading s .answer) ≡ 7) ⊎ (numberOf (reading s .answer) ≡ 8)
     → placeOf (reading s .answer) ≡ length (header d) + (length matchWord + 1) + run isSpace (f .written)

@@ -1,5 +1,5 @@
 -- A book as the matcher sees it, in words, of any struct: what its counts reach, and nothing beyond. For the buyer, beside `nine-rules`,
--- `twelve-rules` and `accepted-leaves`, which speak by `viewBook`.
+-- `twelve-rules` and `accepted-leaves`, which speak by `viewBook`. And the numbers and places of a reading's answers, case by case.
 use mathlib.Core.Path.{_≡_, refl}
 use mathlib.Core.List.{List, map}
 use Prim.Native.Nat.{ℕ}
@@ -7,6 +7,9 @@ use lib.ListN.{take}
 use Rattle.meaning.specs.Events.{ignored, names}
 use Rattle.table.specs.declared.Parameter.{Parameter}
 use Rattle.table.specs.Tables.{viewParameter, viewSymbol}
+use Rattle.book.specs.Answers.{numberOf, placeOf}
+use Rattle.book.specs.declared.ReadingAnswer.the-variants.{Accepted, TooLong, BadLine, AboveLimit, Redeclared}
+use Rattle.book.specs.declared.ReadingAnswer.the-variants.{Undeclared, BadPattern, EmptyWord, Unbound}
 use Rattle.book.specs.declared.Book.{Book}
 use Rattle.book.specs.Books.{viewBook}
 
@@ -32,3 +35,13 @@ pub book-read : (b : Book)
     }
 unfolding viewBook
 book-read b = refl
+
+-- the table of "What a call hands back", 0 to 8, with the places
+pub answer-words : (p : ℕ)
+    → ((numberOf Accepted ≡ 0) × (placeOf Accepted ≡ 0)) × ((numberOf TooLong ≡ 1) × (placeOf TooLong ≡ 4096))
+    × ((numberOf (BadLine p) ≡ 2) × (placeOf (BadLine p) ≡ p)) × ((numberOf (AboveLimit p) ≡ 3) × (placeOf (AboveLimit p) ≡ p))
+    × ((numberOf (Redeclared p) ≡ 4) × (placeOf (Redeclared p) ≡ p)) × ((numberOf (Undeclared p) ≡ 5) × (placeOf (Undeclared p) ≡ p))
+    × ((numberOf (BadPattern p) ≡ 6) × (placeOf (BadPattern p) ≡ p)) × ((numberOf (EmptyWord p) ≡ 7) × (placeOf (EmptyWord p) ≡ p))
+    × ((numberOf (Unbound p) ≡ 8) × (placeOf (Unbound p) ≡ p))
+answer-words p =
+    ((refl, refl), (refl, refl), (refl, refl), (refl, refl), (refl, refl), (refl, refl), (refl, refl), (refl, refl), (refl, refl))

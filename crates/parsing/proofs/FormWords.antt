@@ -62,6 +62,9 @@ range low high b h = let (x, y) = and-true-split (leb low b) (leb b high) h in (
 pub in-range : (low high b : ℕ) → low ≤ b → b ≤ high → (leb low b && leb b high) ≡ true
 in-range low high b x y = ap₂ _&&_ (le-leb low b x) (le-leb b high y)
 
+pub lower-words : (c : ℕ) → (isLower c ≡ true) ↔ ((97 ≤ c) × (c ≤ 122))
+lower-words c = (range 97 122 c, λ (x, y). in-range 97 122 c x y)
+
 pub byte-words : (c : ℕ) → (isNameByte c ≡ true) ↔ (((97 ≤ c) × (c ≤ 122)) ⊎ ((48 ≤ c) × (c ≤ 57)))
 byte-words c = (λ h. ⊎-elim (λ e. inl (range 97 122 c e)) (λ e. inr (range 48 57 c e)) (or-true-split (isLower c) (isDigit c) h), back)
   where

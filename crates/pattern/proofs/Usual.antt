@@ -220,7 +220,7 @@ module _ (r : Regex) where
           ]
 
 pub usual : (r : Regex) (p q : ℕ)
-    → (Has p (beginning r 1) ↔ ((w : List ℕ) × In (marked r 1) (p ∷ w)))
-    × (Has p (ending r 1) ↔ ((w : List ℕ) × In (marked r 1) (w ++ (p ∷ []))))
-    × (Has q (following r 1 p) ↔ ((u : List ℕ) × (v : List ℕ) × In (marked r 1) (u ++ (p ∷ q ∷ v))))
+    → ((bit p (beginning r 1) ≡ true) ↔ ((w : List ℕ) × In (marked r 1) (p ∷ w)))
+    × ((bit p (ending r 1) ≡ true) ↔ ((w : List ℕ) × In (marked r 1) (w ++ (p ∷ []))))
+    × ((bit q (following r 1 p) ≡ true) ↔ ((u : List ℕ) × (v : List ℕ) × In (marked r 1) (u ++ (p ∷ q ∷ v))))
 usual r p q = (begins-word r p, ends-word r p, follows-word r p q)

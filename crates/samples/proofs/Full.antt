@@ -1,4 +1,4 @@
--- Limits met together, each number of an answer, and names with digits inside: computed from the definitions alone.
+-- Limits met together, and names with digits inside: computed from the definitions alone.
 use mathlib.Core.Path.{_≡_, refl}
 use mathlib.Core.List.{List, [], _∷_, _++_, map}
 use Prim.Native.Nat.{ℕ, _+_}
@@ -11,21 +11,10 @@ use Rattle.form.specs.Lines.{wantWord, kindFrom, symbolFrom, linesOf}
 use Rattle.form.specs.Parse.{itemOf, nameAtom, closed, alternationFrom, patternFrom}
 use Rattle.form.specs.Reading.{lastLine, matchFrom, readingOf}
 use Rattle.form.specs.Samples.{times, oneText}
-use Rattle.book.specs.Answers.{numberOf, placeOf}
-use Rattle.book.specs.declared.ReadingAnswer.{ReadingAnswer}
-use Rattle.book.specs.declared.ReadingAnswer.the-variants.{Accepted, TooLong, BadLine, AboveLimit, Redeclared}
-use Rattle.book.specs.declared.ReadingAnswer.the-variants.{Undeclared, BadPattern, EmptyWord, Unbound}
 
 -- the number and the place of a text's reading
 abbrev told : Bytes → ℕ × ℕ
 told s = let o = readingOf s in (o .number, o .place)
-
--- the table of "What a call hands back", 0 to 8, with the places
-abbrev answers : List ReadingAnswer
-answers = Accepted ∷ TooLong ∷ BadLine 11 ∷ AboveLimit 12 ∷ Redeclared 13 ∷ Undeclared 14 ∷ BadPattern 15 ∷ EmptyWord 16 ∷ Unbound 17 ∷ []
-
-pub numbered : (map numberOf answers ≡ numbers 0 9) × (map placeOf answers ≡ 0 ∷ 4096 ∷ numbers 11 7)
-numbered = (refl, refl)
 
 -- twenty names that differ in the last byte
 abbrev named : ℕ → Bytes

@@ -1,0 +1,141 @@
+-- Runs, rows that are meant, and pairings in words: what `listed`, `answered` and `crossed` use by name, written out. For the buyer, beside document
+-- 01's "Crossed messages" and demand 2.
+use mathlib.Core.Path.{_≡_, refl, sym, ap, _∙_}
+use mathlib.Core.Bool.{true, false}
+use mathlib.Core.List.{List, [], _∷_, map}
+use mathlib.Core.Logic.{_↔_}
+use Prim.Native.Nat.{ℕ, suc, _+_, _-_, _*_, _≤_, _<_}
+use native.Mathlib.Omega.{arith}
+use lib.ListN.{length, take, drop, getD}
+use Rattle.laws.specs.Lists.{keep}
+use Rattle.pattern.specs.Regex.{In}
+use Rattle.meaning.specs.Events.{Event, Valuation, isValuation, holds, concerns}
+use Rattle.meaning.specs.Meaning.{Tracematch, noSymbol, noEvent, Reading, nothing, next, Row}
+use Rattle.form.specs.Text.{Bytes}
+use Rattle.record.specs.Records.{eventIn}
+use Rattle.book.specs.declared.Book.{Book}
+use Rattle.state.specs.declared.State.{State}
+use Rattle.calls.specs.Answers.{numberOf}
+use Rattle.calls.specs.Calls.{freshState, isAccepted, taken, bufferAfter}
+use Rattle.calls.specs.Runs.{Lent, Call, event, Made, make, runFrom, runOf, acceptedIn, recordsOf, traceOf, Within, Partners, InOrder, Crossed}
+use Rattle.calls.specs.declared.EventAnswer.{EventAnswer}
+use Rattle.calls.specs.declared.EventAnswer.the-variants as Answer
+
+-- "A run is a list of event calls with one read book …, from the fresh state. Each call gets the state that the call before it returned or left"
+pub run-words : (b : Book) (s : State) (l : Lent) (cs : List Call)
+    → (runOf b cs ≡ runFrom b freshState cs) × (runFrom b s [] ≡ [])
+    × (runFrom b s (event l ∷ cs)
+    ≡ record {
+      lent = l;
+      taken = taken b s (l .bytes) (l .buffer) (l .place) (l .tally);
+      buffer = bufferAfter b s (l .bytes) (l .buffer) (l .place);
+    }
+    ∷ runFrom b (taken b s (l .bytes) (l .buffer) (l .place) (l .tally) .state) cs)
+unfolding make
+run-words b s l cs = (refl, refl, refl)
+
+-- "An event is accepted where its call answers 0, and the accepted ones in order are the run's trace."
+pub trace-words : (m : Made) (ms : List Made)
+    → (acceptedIn [] ≡ []) × (numberOf (m .taken .answer) ≡ 0 → acceptedIn (m ∷ ms) ≡ m ∷ acceptedIn ms)
+    × ((numberOf (m .taken .answer) ≡ 0 → ⊥) → acceptedIn (m ∷ ms) ≡ acceptedIn ms)
+    × (recordsOf ms ≡ map (λ m. m .lent .bytes) (acceptedIn ms)) × (traceOf ms ≡ map (λ m. eventIn (m .lent .bytes)) (acceptedIn ms))
+trace-words m ms = (
+  refl,
+  λ h. rw (yes (m .taken .answer) h) refl,
+  λ h. rw (no (m .taken .answer) h) refl,
+  refl,
+  together (acceptedIn ms),
+)
+  where
+    yes : (a : EventAnswer) → numberOf a ≡ 0 → isAccepted a ≡ true
+    yes Answer.Accepted h = refl
+    yes Answer.Unsound h = absurd (omega (arith, h))
+    yes Answer.OutOfForm h = absurd (omega (arith, h))
+    yes Answer.TooMany h = absurd (omega (arith, h))
+    yes Answer.NoRoom h = absurd (omega (arith, h))
+    yes Answer.NoSpace h = absurd (omega (arith, h))
+
+    no : (a : EventAnswer) → (numberOf a ≡ 0 → ⊥) → isAccepted a ≡ false
+    no Answer.Accepted h = absurd (h refl)
+    no Answer.Unsound h = refl
+    no Answer.OutOfForm h = refl
+    no Answer.TooMany h = refl
+    no Answer.NoRoom h = refl
+    no Answer.NoSpace h = refl
+
+    together : (l : List Made) → map eventIn (map (λ m. m .lent .bytes) l) ≡ map (λ m. eventIn (m .lent .bytes)) l
+    together [] = refl
+    together (m ∷ l) = ap (eventIn (m .lent .bytes) ∷_) (together l)
+
+-- "read as symbols that hold": as many symbols as events, each declared, each with a constraint that holds
+pub reading-words : (tm : Tracematch) (σ : Valuation) (e : Event) (es : List Event) (a : ℕ) (w : List ℕ)
+    → Reading tm σ [] [] × (Reading tm σ [] (a ∷ w) → ⊥) × (Reading tm σ (e ∷ es) [] → ⊥)
+    × (Reading tm σ (e ∷ es) (a ∷ w) ↔ ((a < length (tm .symbols)) × (holds (getD (tm .symbols) a noSymbol) e σ ≡ true) × Reading tm σ es w))
+reading-words tm σ e es a w = (nothing, λ r. omega (arith, as-many r), λ r. omega (arith, as-many r), (parts, λ (i, h, r). next i h r))
+  where
+    as-many : {es : List Event} {w : List ℕ} → Reading tm σ es w → length es ≡ length w
+    as-many nothing = refl
+    as-many (next i h r) = ap suc (as-many r)
+
+    parts : Reading tm σ (e ∷ es) (a ∷ w) → (a < length (tm .symbols)) × (holds (getD (tm .symbols) a noSymbol) e σ ≡ true) × Reading tm σ es w
+    parts (next i h r) = (i, h, r)
+
+-- "the valuations that the event concerns and for which some stretch of accepted events ending there, reduced to those that concern the valuation and read
+-- as symbols that hold, is a word of the pattern"
+pub meant-words : (tm : Tracematch) (t : List Event) (n : ℕ) (σ : Valuation)
+    → Row tm t n σ
+    ↔ ((isValuation (tm .variables) σ ≡ true) × (concerns (tm .symbols) (getD t (n - 1) noEvent) σ ≡ true)
+    × ((i : ℕ) × (w : List ℕ) × (1 ≤ i) × (i ≤ n) × (n ≤ length t)
+    × Reading tm σ (keep (λ e. concerns (tm .symbols) e σ) (drop (i - 1) (take n t))) w × In (tm .pattern) w))
+meant-words tm t n σ = (
+  λ r. let m = r .match in (r .valuation, r .concerned, (r .first, m .word, m .from, m .upto, m .inside, m .reading, m .spoken)),
+  λ (v, c, (i, w, a, b, l, r, s)).
+      record {
+        valuation = v;
+        concerned = c;
+        first = i;
+        match = record { from = a; upto = b; inside = l; word = w; reading = r; spoken = s };
+      },
+)
+
+-- "dependent ones in the same order"; "Two events concern a common valuation if some one valuation is concerned by both."
+pub order-kept : (tm : Tracematch) (t u : List Bytes) (p : Partners t u)
+    → InOrder tm t u p
+    ↔ ((i j : ℕ) → i < j → j < length t
+    → (σ : Valuation) → isValuation (tm .variables) σ ≡ true → concerns (tm .symbols) (eventIn (getD t i [])) σ ≡ true
+    → concerns (tm .symbols) (eventIn (getD t j [])) σ ≡ true → p .to i < p .to j)
+order-kept tm t u p = (
+  λ o i j h k σ v x y. o .keeps i j h k (record { common = σ; valuation = v; first = x; second = y }),
+  λ f. record { keeps = λ i j h k d. f i j h k (d .common) (d .valuation) (d .first) (d .second) },
+)
+
+-- "Partners are accepted events with the same 20 bytes, one in each run; each accepted event has exactly one partner.": any such pairing is one
+pub partners-words : (t u : List Bytes) (to back : ℕ → ℕ)
+    → ((i : ℕ) → i < length t → (to i < length u) × (back (to i) ≡ i) × (getD u (to i) [] ≡ getD t i []))
+    → ((j : ℕ) → j < length u → (back j < length t) × (to (back j) ≡ j))
+    → (p : Partners t u) × ((i : ℕ) → p .to i ≡ to i)
+partners-words t u to back f g = (
+  record {
+    to = to;
+    back = back;
+    to-inside = λ i h. f i h .0;
+    back-inside = λ j h. g j h .0;
+    back-to = λ i h. f i h .1;
+    to-back = λ j h. g j h .1;
+    same = λ i h. f i h .2;
+  },
+  λ i. refl,
+)
+
+-- "partners have the same row count, and bytes 4 to 23 of their rows are equal, first row to last, as each call left them"
+pub crossed-words : (tm : Tracematch) (xs ys : List Made) (p : Partners (recordsOf xs) (recordsOf ys)) → Crossed tm xs ys p
+    → (i : ℕ) (m n : Made) → Within (acceptedIn xs) i m → Within (acceptedIn ys) (p .to i) n
+    → (m .taken .rows ≡ n .taken .rows)
+    × ((j : ℕ) → j < m .taken .rows
+    → take 20 (drop (m .lent .place + 24 * j + 4) (m .buffer)) ≡ take 20 (drop (n .lent .place + 24 * j + 4) (n .buffer)))
+crossed-words tm xs ys p c i m n x y =
+    let h = x .0 in
+    let a = c .alike i h in
+    let e : c .first i h ≡ m = sym (c .first-at i h .1 m) ∙ x .1 m in
+    let f : c .partner i h ≡ n = sym (c .partner-at i h .1 n) ∙ y .1 n in
+    rw (← e, ← f) (a .counts, a .bytes)
