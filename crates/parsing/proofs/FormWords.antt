@@ -322,10 +322,10 @@ pub names-words : (d : Declarations)
 names-words d = (refl, refl)
 
 -- how many bytes pass from the first on; spaces, and the bytes of words
-pub run-words : (f : ℕ → Bool) (b : ℕ) (l : Bytes)
+pub scan-words : (f : ℕ → Bool) (b : ℕ) (l : Bytes)
     → (run f [] ≡ 0) × (f b ≡ true → run f (b ∷ l) ≡ suc (run f l)) × (f b ≡ false → run f (b ∷ l) ≡ 0)
     × ((isSpace b ≡ true) ↔ (b ≡ 32)) × ((isWordByte b ≡ true) ↔ ((b ≡ 32 → ⊥) × (b ≡ 10 → ⊥)))
-run-words f b l = (
+scan-words f b l = (
   refl,
   λ h. rw h refl,
   λ h. rw h refl,
