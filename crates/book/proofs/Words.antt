@@ -6,7 +6,7 @@ use Prim.Native.Nat.{ℕ}
 use lib.ListN.{take}
 use Rattle.meaning.specs.Events.{ignored, names}
 use Rattle.table.specs.declared.Parameter.{Parameter}
-use Rattle.table.specs.Tables.{viewParameter, viewSymbol}
+use Rattle.table.specs.Tables.{nameOf, viewParameter, viewSymbol}
 use Rattle.book.specs.Answers.{numberOf, placeOf}
 use Rattle.book.specs.declared.ReadingAnswer.the-variants.{Accepted, TooLong, BadLine, AboveLimit, Redeclared}
 use Rattle.book.specs.declared.ReadingAnswer.the-variants.{Undeclared, BadPattern, EmptyWord, Unbound}
@@ -16,6 +16,10 @@ use Rattle.book.specs.Books.{viewBook}
 -- "each a declared variable or `_`": tag 1 and the variable's number, tag 0
 pub parameter-read : (n : ℕ) → (viewParameter (record { tag = 0; number = n }) ≡ ignored) × (viewParameter (record { tag = 1; number = n }) ≡ names n)
 parameter-read n = (refl, refl)
+
+-- a declaring place as it is handed back, and as the book has it
+pub name-read : (p n : ℕ) → nameOf (record { start = p; size = n }) ≡ record { start = p; size = n }
+name-read p n = refl
 
 pub symbol-read : (k n : ℕ) (ps : List Parameter)
     → viewSymbol (record { kind = k; count = n; parameters = ps }) ≡ record { kind = k; parameters = map viewParameter (take n ps) }

@@ -68,6 +68,29 @@ pub disjuncts-ordered : ascending compareDisjuncts
 unfolding compareDisjuncts
 disjuncts-ordered = refl
 
+-- no value before a free variable, no larger value before a smaller one, no list before one that it goes on from
+pub disjuncts-turned : map (ascending compareDisjuncts)
+    (((bound 5 ∷ []) ∷ (free [] ∷ []) ∷ []) ∷ ((bound 5 ∷ []) ∷ (free (7 ∷ []) ∷ []) ∷ []) ∷ ((bound 5 ∷ free [] ∷ []) ∷ (bound 4 ∷ bound 9 ∷ []) ∷ [])
+    ∷ ((free (1 ∷ 2 ∷ []) ∷ []) ∷ (free (1 ∷ []) ∷ []) ∷ []) ∷ ((free (2 ∷ []) ∷ []) ∷ (free (1 ∷ 3 ∷ []) ∷ []) ∷ []) ∷ [])
+    ≡ replicate 5 false
+unfolding compareDisjuncts
+disjuncts-turned = refl
+
+-- what is held after b(3), a(9), b(2) of `vars s d`, a 1 s, b 2 d, c 3 d s, `match a? b c`: what comes last stands first, and second
+pub before-held : heldAfter
+    (record {
+      variables = 2;
+      symbols = record { kind = 1; parameters = names 0 ∷ [] } ∷ record { kind = 2; parameters = names 1 ∷ [] }
+          ∷ record { kind = 3; parameters = names 1 ∷ names 0 ∷ [] } ∷ [];
+      pattern = cat (opt (lit 0)) (cat (lit 1) (lit 2));
+    })
+    (Call.event (record { kind = 2; args = 3 ∷ [] }) true ∷ Call.event (record { kind = 1; args = 9 ∷ [] }) true
+    ∷ Call.event (record { kind = 2; args = 2 ∷ [] }) true ∷ [])
+    ≡ heldAt 1 (bound 9 ∷ free (2 ∷ []) ∷ []) ∷ heldAt 2 (free [] ∷ bound 2 ∷ []) ∷ heldAt 2 (free (9 ∷ []) ∷ bound 3 ∷ [])
+    ∷ heldAt 2 (bound 9 ∷ bound 2 ∷ []) ∷ []
+unfolding bit join single matches constraintOf bookOf compareDisjuncts skipBy sources stepSet skipSet newLabel newHeld
+before-held = refl
+
 -- `vars d`, `sym a 1 d`, `match a`, and its event with argument x
 abbrev once : Tracematch
 once = record { variables = 1; symbols = record { kind = 1; parameters = names 0 ∷ [] } ∷ []; pattern = lit 0 }
