@@ -1,6 +1,6 @@
 // Fixed cases, run: the parts of the matcher alone (parts), the full pool (full), and here the calls that change a lent tally,
 // `counted::event` and `tally::count`: document 01's six events of B1 with refused ones between, whose answers, rows and counters are
-// printed, and counters that stop at the largest 64-bit value.
+// printed, and counters that stop at the largest 64-bit value. Before them readings and names by the public calls.
 mod full;
 mod parts;
 mod score;
@@ -168,11 +168,34 @@ fn counts() {
     counters(count(one, 1, 0, LARGEST));
 }
 
+// A name of a text: start, size and bytes; of a number not declared 0, 0 and nothing.
+fn named(text: &[u8], n: usize) {
+    let p = watch::name_place(text, n);
+    number(p.start as u64, b" ");
+    number(p.size as u64, b" ");
+    io::write_all(1, watch::name(text, n));
+    io::write_all(1, b"\n");
+}
+
+// The book of a text; its counts of beginning and of ending positions are printed.
+fn read(text: &[u8]) -> Book {
+    let r = watch::read(text);
+    number(r.begin_count as u64, b" ");
+    number(r.end_count as u64, b"\n");
+    r.book
+}
+
+// The book of document 01, and some of its names: a variable's, a symbol's, and none.
+fn told(text: &[u8]) -> Book {
+    named(text, 1);
+    named(text, 4);
+    named(text, 5);
+    read(text)
+}
+
 fn main() {
-    let r = reader::read(
-        b"vars d s\nsym load 1 d s\nsym drop 2 d\nsym clean 3 d\nmatch load drop+\n",
-    );
-    let book = r.book;
+    read(b"vars d s\nsym a 123 _ s d\nsym b 209 d\nmatch a (b? | a)\n");
+    let book = told(b"vars d s\nsym load 1 d s\nsym drop 2 d\nsym clean 3 d\nmatch load drop+\n");
     events(book);
     counts();
     score::report(full::filled(book, score::none()));

@@ -176,7 +176,7 @@ fn start() -> Score {
 }
 
 fn main() {
-    let r = reader::read(
+    let r = watch::read(
         b"vars d s\nsym open 5 d\nsym fill 1 d s\nsym seal 6 d s\nmatch open seal\n",
     );
     let book = r.book;

@@ -2,22 +2,35 @@
 -- 01's "Crossed messages" and demand 2.
 use mathlib.Core.Path.{_≡_, refl, sym, ap, _∙_}
 use mathlib.Core.Bool.{true, false}
-use mathlib.Core.List.{List, [], _∷_, map}
-use mathlib.Core.Logic.{_↔_}
+use mathlib.Core.List.{List, [], _∷_, _++_, map, List·Memᴰ}
+use mathlib.Core.Logic.{_↔_, _⊎_, inl, inr, ⊎-elim}
 use Prim.Native.Nat.{ℕ, suc, _+_, _-_, _*_, _≤_, _<_}
 use native.Mathlib.Omega.{arith}
+use borrow.Author.Tests.{ltb-true, lt-ltb}
+use lib.Dec.{ltb}
 use lib.ListN.{length, take, drop, getD}
-use Rattle.laws.specs.Lists.{keep}
+use Rattle.laws.specs.Lists.{keep, gather}
+use Rattle.laws.specs.Order.{ascending}
+use Rattle.laws.specs.Parts.{splice}
+use Rattle.laws.proofs.Lists.{all-at, all-of}
 use Rattle.pattern.specs.Regex.{In}
 use Rattle.meaning.specs.Events.{Event, Valuation, isValuation, holds, concerns}
 use Rattle.meaning.specs.Meaning.{Tracematch, noSymbol, noEvent, Reading, nothing, next, Row}
-use Rattle.form.specs.Text.{Bytes}
-use Rattle.record.specs.Records.{eventIn}
+use Rattle.meaning.specs.Book.{bookOf}
+use Rattle.meaning.specs.Labels.{Held, newHeld}
+use Rattle.meaning.specs.Room.{Broken}
+use Rattle.meaning.specs.Rows.{compareValuations}
+use Rattle.form.specs.Text.{Bytes, isBytes}
+use Rattle.record.specs.Records.{isRecord, eventIn}
+use Rattle.row.specs.RowBytes.{rowBytes}
+use Rattle.tally.specs.Tallies.{tallied}
 use Rattle.book.specs.declared.Book.{Book}
 use Rattle.state.specs.declared.State.{State}
 use Rattle.calls.specs.Answers.{numberOf}
 use Rattle.calls.specs.Calls.{freshState, isAccepted, taken, bufferAfter}
-use Rattle.calls.specs.Runs.{Lent, Call, event, Made, make, runFrom, runOf, acceptedIn, recordsOf, traceOf, Within, Partners, InOrder, Crossed}
+use Rattle.calls.specs.Runs.{Lent, Call, event, lentAt, allBytes, Made, make, runFrom, runOf, acceptedIn, recordsOf, traceOf, Within, Delivered}
+use Rattle.calls.specs.Runs.{heldFrom, heldAfter, TooShort, beyond, over, Judged, outOfForm, tooMany, noRoom, noSpace, accepted}
+use Rattle.calls.specs.Runs.{Partners, InOrder, Crossed}
 use Rattle.calls.specs.declared.EventAnswer.{EventAnswer}
 use Rattle.calls.specs.declared.EventAnswer.the-variants as Answer
 
@@ -67,6 +80,21 @@ trace-words m ms = (
     together [] = refl
     together (m ∷ l) = ap (eventIn (m .lent .bytes) ∷_) (together l)
 
+-- what is asked of the calls of a run: that their records are bytes, and nothing else; which element of a list is meant
+pub bytes-words : (cs : List Call)
+    → (allBytes cs ≡ true) ↔ ((l : Lent) → List·Memᴰ (event l) cs → (x : ℕ) → List·Memᴰ x (l .bytes) → x < 256)
+bytes-words cs = (
+  λ h l m x k. ltb-true x 256 (all-at (λ b. ltb b 256) (all-at (λ c. isBytes (lentAt c .bytes)) h m) k),
+  λ f. all-of (λ c. isBytes (lentAt c .bytes)) cs (bytes f),
+)
+  where
+    bytes : ((l : Lent) → List·Memᴰ (event l) cs → (x : ℕ) → List·Memᴰ x (l .bytes) → x < 256) → (c : Call) → List·Memᴰ c cs
+        → isBytes (lentAt c .bytes) ≡ true
+    bytes f (event l) m = all-of (λ b. ltb b 256) (l .bytes) (λ x k. lt-ltb x 256 (f l m x k))
+
+pub within-words : (ms : List Made) (i : ℕ) (m : Made) → Within ms i m ↔ ((i < length ms) × ((d : Made) → getD ms i d ≡ m))
+within-words ms i m = (λ w. w, λ w. w)
+
 -- "read as symbols that hold": as many symbols as events, each declared, each with a constraint that holds
 pub reading-words : (tm : Tracematch) (σ : Valuation) (e : Event) (es : List Event) (a : ℕ) (w : List ℕ)
     → Reading tm σ [] [] × (Reading tm σ [] (a ∷ w) → ⊥) × (Reading tm σ (e ∷ es) [] → ⊥)
@@ -98,6 +126,88 @@ meant-words tm t n σ = (
       },
 )
 
+-- "the rows are, once each and in order, the valuations …", each with the event's number, from the lent place on, and all else as lent; the tally, and
+-- the number of the state that is handed back
+pub delivered-words : (tm : Tracematch) (t : List Event) (n : ℕ) (m : Made)
+    → Delivered tm t n m
+    ↔ ((l : List Valuation) × (ascending compareValuations l ≡ true) × ((σ : Valuation) → List·Memᴰ σ l ↔ Row tm t n σ)
+    × (m .taken .rows ≡ length l) × (m .lent .place + 24 * length l ≤ length (m .lent .buffer))
+    × (m .buffer ≡ splice (m .lent .place) (gather (rowBytes n (tm .variables)) l) (m .lent .buffer))
+    × (m .taken .tally ≡ tallied (m .lent .tally) 1 0 (length l)) × (m .taken .state .number ≡ n))
+delivered-words tm t n m = (
+  λ d. (d .valuations, d .meant .ordered, d .meant .exact, d .counted, d .fitting, d .written, d .tallies, d .numbered),
+  λ (l, o, e, c, f, w, a, k).
+      record {
+        valuations = l;
+        meant = record { ordered = o; exact = e };
+        counted = c;
+        fitting = f;
+        written = w;
+        tallies = a;
+        numbered = k;
+      },
+)
+
+-- what the labels hold after the events of a trace, one after the other from nothing
+pub after-words : (tm : Tracematch) (t : List Event) (e : Event)
+    → (heldAfter tm [] ≡ []) × (heldAfter tm (t ++ (e ∷ [])) ≡ newHeld (bookOf tm) (heldAfter tm t) e)
+after-words tm t e = (refl, behind [] t)
+  where
+    behind : (h : List Held) (t : List Event) → heldFrom tm h (t ++ (e ∷ [])) ≡ newHeld (bookOf tm) (heldFrom tm h t) e
+    behind h [] = refl
+    behind h (x ∷ t) = behind (newHeld (bookOf tm) h x) t
+
+-- "Events: 9 to 13 in that order", along a run, where 9 is never
+pub judged-words : (tm : Tracematch) (t : List Event) (l : Lent) (k : ℕ) → let e = eventIn (l .bytes) in
+    let Formed : Type 0 = (isRecord (l .bytes) ≡ true) × (length t < 1000000) in
+    let Room : Type 0 = Broken (bookOf tm) (heldAfter tm t) e → ⊥ in
+    Judged tm t l k
+    ↔ (((k ≡ 10) × (isRecord (l .bytes) ≡ false))
+    ⊎ (((k ≡ 11) × (isRecord (l .bytes) ≡ true) × (length t ≡ 1000000))
+    ⊎ (((k ≡ 12) × Formed × Broken (bookOf tm) (heldAfter tm t) e)
+    ⊎ (((k ≡ 13) × Formed × Room × TooShort tm t e (l .buffer) (l .place))
+    ⊎ ((k ≡ 0) × Formed × Room × (TooShort tm t e (l .buffer) (l .place) → ⊥))))))
+judged-words tm t l k = (forth, back)
+  where
+    Told : ℕ → Type 0
+    Told k =
+        ((k ≡ 10) × (isRecord (l .bytes) ≡ false))
+        ⊎ (((k ≡ 11) × (isRecord (l .bytes) ≡ true) × (length t ≡ 1000000))
+        ⊎ (((k ≡ 12) × ((isRecord (l .bytes) ≡ true) × (length t < 1000000)) × Broken (bookOf tm) (heldAfter tm t) (eventIn (l .bytes)))
+        ⊎ (((k ≡ 13) × ((isRecord (l .bytes) ≡ true) × (length t < 1000000)) × (Broken (bookOf tm) (heldAfter tm t) (eventIn (l .bytes)) → ⊥)
+        × TooShort tm t (eventIn (l .bytes)) (l .buffer) (l .place))
+        ⊎ ((k ≡ 0) × ((isRecord (l .bytes) ≡ true) × (length t < 1000000)) × (Broken (bookOf tm) (heldAfter tm t) (eventIn (l .bytes)) → ⊥)
+        × (TooShort tm t (eventIn (l .bytes)) (l .buffer) (l .place) → ⊥)))))
+
+    forth : {k : ℕ} → Judged tm t l k → Told k
+    forth (outOfForm h) = inl (refl, h)
+    forth (tooMany h n) = inr (inl (refl, h, n))
+    forth (noRoom h n b) = inr (inr (inl (refl, (h, n), b)))
+    forth (noSpace h n b s) = inr (inr (inr (inl (refl, (h, n), b, s))))
+    forth (accepted h n b s) = inr (inr (inr (inr (refl, (h, n), b, s))))
+
+    back : {k : ℕ} → Told k → Judged tm t l k
+    back (inl (e, h)) = rw e (outOfForm h)
+    back (inr (inl (e, h, n))) = rw e (tooMany h n)
+    back (inr (inr (inl (e, (h, n), b)))) = rw e (noRoom h n b)
+    back (inr (inr (inr (inl (e, (h, n), b, s))))) = rw e (noSpace h n b s)
+    back (inr (inr (inr (inr (e, (h, n), b, s))))) = rw e (accepted h n b s)
+
+-- "row buffer too short, or start place beyond it"
+pub short-words : (tm : Tracematch) (t : List Event) (e : Event) (buffer : Bytes) (place : ℕ)
+    → TooShort tm t e buffer place
+    ↔ ((length buffer < place)
+    ⊎ ((l : List Valuation) × (ascending compareValuations l ≡ true) × ((σ : Valuation) → List·Memᴰ σ l ↔ Row tm (t ++ (e ∷ [])) (suc (length t)) σ)
+    × (place ≤ length buffer) × (length buffer - place < 24 * length l)))
+short-words tm t e buffer place = (forth, λ r. ⊎-elim beyond (λ (l, o, x, p, s). over l (record { ordered = o; exact = x }) p s) r)
+  where
+    forth : TooShort tm t e buffer place
+        → (length buffer < place)
+        ⊎ ((l : List Valuation) × (ascending compareValuations l ≡ true) × ((σ : Valuation) → List·Memᴰ σ l ↔ Row tm (t ++ (e ∷ [])) (suc (length t)) σ)
+        × (place ≤ length buffer) × (length buffer - place < 24 * length l))
+    forth (beyond h) = inl h
+    forth (over l m p s) = inr (l, m .ordered, m .exact, p, s)
+
 -- "dependent ones in the same order"; "Two events concern a common valuation if some one valuation is concerned by both."
 pub order-kept : (tm : Tracematch) (t u : List Bytes) (p : Partners t u)
     → InOrder tm t u p
@@ -127,10 +237,11 @@ partners-words t u to back f g = (
   λ i. refl,
 )
 
--- "partners have the same row count, and bytes 4 to 23 of their rows are equal, first row to last, as each call left them"
+-- "partners have the same row count, and bytes 4 to 23 of their rows are equal, first row to last, as each call left them …. The rows are those of demand 2
+-- over the trace of each one's own run."
 pub crossed-words : (tm : Tracematch) (xs ys : List Made) (p : Partners (recordsOf xs) (recordsOf ys)) → Crossed tm xs ys p
     → (i : ℕ) (m n : Made) → Within (acceptedIn xs) i m → Within (acceptedIn ys) (p .to i) n
-    → (m .taken .rows ≡ n .taken .rows)
+    → Delivered tm (traceOf xs) (suc i) m × Delivered tm (traceOf ys) (suc (p .to i)) n × (m .taken .rows ≡ n .taken .rows)
     × ((j : ℕ) → j < m .taken .rows
     → take 20 (drop (m .lent .place + 24 * j + 4) (m .buffer)) ≡ take 20 (drop (n .lent .place + 24 * j + 4) (n .buffer)))
 crossed-words tm xs ys p c i m n x y =
@@ -138,4 +249,4 @@ crossed-words tm xs ys p c i m n x y =
     let a = c .alike i h in
     let e : c .first i h ≡ m = sym (c .first-at i h .1 m) ∙ x .1 m in
     let f : c .partner i h ≡ n = sym (c .partner-at i h .1 n) ∙ y .1 n in
-    rw (← e, ← f) (a .counts, a .bytes)
+    rw (← e, ← f) (a .left, a .right, a .counts, a .bytes)

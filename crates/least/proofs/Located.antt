@@ -32,18 +32,20 @@ byte-read s p = refl
 
 -- "from 0": the first line, no word yet. Behind LF (10) another line begins; behind a space (32) no word goes on; behind any other byte one does, a new
 -- one where none did before.
-pub spot-words : (s : Bytes) (p : ℕ) → p < length s → let x = spotAt s p in
+pub spot-words : (s : Bytes) (p : ℕ) → let x = spotAt s p in
     (spotAt s 0 ≡ record { line = 0; words = 0; inside = false })
-    × (at s p ≡ 10 → spotAt s (p + 1) ≡ record { line = suc (x .line); words = 0; inside = false })
-    × (at s p ≡ 32 → spotAt s (p + 1) ≡ record { line = x .line; words = x .words; inside = false })
-    × ((at s p ≡ 10 → ⊥) → (at s p ≡ 32 → ⊥) → x .inside ≡ true → spotAt s (p + 1) ≡ record { line = x .line; words = x .words; inside = true })
-    × ((at s p ≡ 10 → ⊥) → (at s p ≡ 32 → ⊥) → x .inside ≡ false → spotAt s (p + 1) ≡ record { line = x .line; words = suc (x .words); inside = true })
-spot-words s p h = (
+    × (p < length s → at s p ≡ 10 → spotAt s (p + 1) ≡ record { line = suc (x .line); words = 0; inside = false })
+    × (p < length s → at s p ≡ 32 → spotAt s (p + 1) ≡ record { line = x .line; words = x .words; inside = false })
+    × (p < length s → (at s p ≡ 10 → ⊥) → (at s p ≡ 32 → ⊥) → x .inside ≡ true
+    → spotAt s (p + 1) ≡ record { line = x .line; words = x .words; inside = true })
+    × (p < length s → (at s p ≡ 10 → ⊥) → (at s p ≡ 32 → ⊥) → x .inside ≡ false
+    → spotAt s (p + 1) ≡ record { line = x .line; words = suc (x .words); inside = true })
+spot-words s p = (
   spot-zero s,
-  λ e. spot-step s p h ∙ rw (eq-eqb (at s p) 10 e) refl,
-  λ e. spot-step s p h ∙ rw e refl,
-  λ e f i. spot-step s p h ∙ rw (ne-eqb (at s p) 10 e, ne-eqb (at s p) 32 f, i) refl,
-  λ e f i. spot-step s p h ∙ rw (ne-eqb (at s p) 10 e, ne-eqb (at s p) 32 f, i) refl,
+  λ h e. spot-step s p h ∙ rw (eq-eqb (at s p) 10 e) refl,
+  λ h e. spot-step s p h ∙ rw e refl,
+  λ h e f i. spot-step s p h ∙ rw (ne-eqb (at s p) 10 e, ne-eqb (at s p) 32 f, i) refl,
+  λ h e f i. spot-step s p h ∙ rw (ne-eqb (at s p) 10 e, ne-eqb (at s p) 32 f, i) refl,
 )
 
 word-byte : (b : ℕ) → isWordByte b ≡ true → (b ≡ 32 → ⊥) × (b ≡ 10 → ⊥)

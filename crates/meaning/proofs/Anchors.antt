@@ -23,7 +23,7 @@ use Rattle.meaning.specs.Labels.{skipBy, sources, stepSet, skipSet, newL
 use Rattle.meaning.specs.Room.{setRoom, room}
 use Rattle.meaning.specs.Rows.{rows, compareValuations, valueOf}
 use Rattle.meaning.specs.Runs.{Call, heldAfter, Pairing, Dependent, Ordered}
-use Rattle.meaning.specs.Starred.{Case, Answer, answers, table, onTheWay, partial, partialCalls, partialHeld}
+use Rattle.meaning.specs.Starred.{Case, Answer, answers, table, onTheWay, unnamedOnTheWay, partial, partialCalls, partialHeld}
 use Rattle.meaning.specs.Starred.{mixed, mixedCalls, mixedHeld, thrice, thriceCalls, thriceHeld}
 
 abbrev pub outcome : Case → Bool × Bool × List Answer
@@ -41,6 +41,11 @@ pub on-the-way : outcome onTheWay ≡ wanted onTheWay
 unfolding bit join meet single matches constraintOf wellFormed bookOf isProper soundSymbol compareDisjuncts skipBy sources stepSet skipSet newLabel
     newHeld setRoom room rows onTheWay
 on-the-way = refl
+
+pub unnamed-on-the-way : outcome unnamedOnTheWay ≡ wanted unnamedOnTheWay
+unfolding bit join meet single matches constraintOf wellFormed bookOf isProper soundSymbol compareDisjuncts skipBy sources stepSet skipSet newLabel
+    newHeld setRoom room rows unnamedOnTheWay
+unnamed-on-the-way = refl
 
 pub partial-held : heldAfter partial partialCalls ≡ partialHeld
 unfolding bit join single matches constraintOf bookOf compareDisjuncts skipBy sources stepSet skipSet newLabel newHeld
@@ -258,5 +263,5 @@ pub used-words : (b : Book) (held : List Held) (p v a : ℕ) (D : Disjunct) (xs 
     → (positions b ≡ numbers 1 (length (b .occurrences))) × (endsAt b p ≡ bit p (b .ends))
     × (beginsAt b p ≡ bit p (b .begins)) × (labelOf held p ≡ map (λ h. h .disjunct) (keep (λ h. eqb (h .position) p) held)) × (entryOf D v ≡ getD D v (free []))
     × (isFree (bound a) ≡ false) × (isFree (free xs) ≡ true) × (exclusions (bound a) ≡ []) × (exclusions (free xs) ≡ xs)
-    × (valueKey (bound a) ≡ suc a) × (valueKey (free xs) ≡ 0) × (valueOf (bound a) ≡ a)
-used-words b held p v a D xs = (refl, refl, refl, refl, refl, refl, refl, refl, refl, refl, refl, refl)
+    × (valueKey (bound a) ≡ suc a) × (valueKey (free xs) ≡ 0) × (valueOf (bound a) ≡ a) × (heldAt p D ≡ record { position = p; disjunct = D })
+used-words b held p v a D xs = (refl, refl, refl, refl, refl, refl, refl, refl, refl, refl, refl, refl, refl)

@@ -170,6 +170,22 @@ onTheWay =
       expected = none ∷ none ∷ none ∷ none ∷ none ∷ none ∷ none ∷ noRoom ∷ [];
     }
 
+-- the same with a symbol more, c 4 d, and `match a c`: of "some skip set after one of its symbols" each declared symbol is one, whether the pattern
+-- names it or not
+unfoldable pub unnamedOnTheWay : Case
+unnamedOnTheWay =
+    record {
+      tracematch = record {
+        variables = 1;
+        symbols = symbol 1 [] ∷ symbol 3 (d ∷ []) ∷ symbol 2 (d ∷ []) ∷ symbol 2 (ignored ∷ []) ∷ symbol 4 (d ∷ []) ∷ [];
+        pattern = cat (lit 0) (lit 4);
+      };
+      events =
+          event 1 [] ∷ event 3 (1 ∷ []) ∷ event 3 (2 ∷ []) ∷ event 3 (3 ∷ []) ∷ event 3 (4 ∷ []) ∷ event 3 (5 ∷ [])
+          ∷ event 3 (6 ∷ []) ∷ event 2 (7 ∷ []) ∷ [];
+      expected = none ∷ none ∷ none ∷ none ∷ none ∷ none ∷ none ∷ noRoom ∷ [];
+    }
+
 -- what is held after a(), b(1,7), b(1,8) of `vars d s`, a 1, b 2 d s, `match a b`: "not (d=1 and s=7)" is two disjuncts, and
 -- they stand "by values …, then by exclusion lists, a list before any that it begins"
 abbrev pub partial : Tracematch

@@ -5,6 +5,8 @@ use mathlib.Core.Bool.{Bool, true, false, not, _&&_, _||_, true≢false}
 use mathlib.Core.List.{List, [], _∷_, _++_, map, List·Memᴰ, append-assoc, append-nil}
 use mathlib.Core.Logic.{_↔_, _⊎_, inl, inr, ⊎-elim}
 use Prim.Native.Nat.{ℕ, zero, suc, _+_, _/_, _%_, _≤_, _<_}
+use Prim.Native.Char.{Char, code}
+use Prim.Native.String.{String}
 use native.Mathlib.Omega.{arith}
 use borrow.Author.Tests.{not-true, leb-true, le-leb, ltb-true, lt-ltb, le-ltb, eqb-true, eqb-false, eq-eqb, ne-eqb}
 use lib.Dec.{eqb, leb, ltb}
@@ -317,6 +319,19 @@ places-words d x =
     )
 
 -- "variables from 0, then symbols", and the numbers that a pattern's names stand for: those of the lines, in their order
+-- as many declaring places as names
+pub places-counted : (d : Declarations) → length (spans d) ≡ length (d .variables) + length (d .symbols)
+places-counted d =
+    length-append (variableSpans 5 (d .variables)) _ ∙ ap₂ _+_ (variables-placed 5 (d .variables)) (symbols-placed _ (d .variables) (d .symbols))
+  where
+    variables-placed : (p : ℕ) (ws : List Bytes) → length (variableSpans p ws) ≡ length ws
+    variables-placed p [] = refl
+    variables-placed p (w ∷ ws) = ap suc (variables-placed _ ws)
+
+    symbols-placed : (p : ℕ) (vs : List Bytes) (ls : List SymbolLine) → length (symbolSpans p vs ls) ≡ length ls
+    symbols-placed p vs [] = refl
+    symbols-placed p vs (l ∷ ls) = ap suc (symbols-placed _ vs ls)
+
 pub names-words : (d : Declarations)
     → (symbolNames d ≡ map (λ l. l .name) (d .symbols)) × (allNames d ≡ d .variables ++ map (λ l. l .name) (d .symbols))
 names-words d = (refl, refl)
@@ -335,3 +350,7 @@ scan-words f b l = (
     λ (x, y). rw (ne-eqb b 32 x, ne-eqb b 10 y) refl,
   ),
 )
+
+-- the bytes of a text that a statement writes out: its characters' codes, one by one
+pub ascii-words : (c : Char) (s : String) → (ascii String.[] ≡ []) × (ascii (String._∷_ c s) ≡ code c ∷ ascii s)
+ascii-words c s = (refl, refl)

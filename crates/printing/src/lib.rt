@@ -178,7 +178,7 @@ fn print_open(book: &[u8], events: i32, before: u32) {
     let mut buffer = io::large_buffer();
     let n = io::read_full(fd, &mut buffer);
     libc::close(fd);
-    let r = reader::read(&buffer[..n]);
+    let r = watch::read(&buffer[..n]);
     let a = r.answer;
     let number = book::number_of(a);
     if number == 0 {

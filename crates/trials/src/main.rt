@@ -42,7 +42,7 @@ fn judged(trial: &mut [u32], bytes: &mut [u8]) {
 
 // The text read, and the events of the trial in order, from the fresh state on.
 fn run(trial: &mut [u32], bytes: &[u8], size: usize) {
-    let r = reader::read(cells::part(bytes, cells::TEXT, size));
+    let r = watch::read(cells::part(bytes, cells::TEXT, size));
     let read = r.answer;
     let book = r.book;
     let calls = second::calls(book::number_of(read));
