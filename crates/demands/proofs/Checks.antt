@@ -191,6 +191,17 @@ zero-accepted Answer.TooMany h = absurd (false≢true h)
 zero-accepted Answer.NoRoom h = absurd (false≢true h)
 zero-accepted Answer.NoSpace h = absurd (false≢true h)
 
+pub accepted-zero : (a : EventAnswer) → numberOf a ≡ 0 → isAccepted a ≡ true
+accepted-zero Answer.Accepted e = refl
+accepted-zero Answer.Unsound e = absurd (omega (arith, e))
+accepted-zero Answer.OutOfForm e = absurd (omega (arith, e))
+accepted-zero Answer.TooMany e = absurd (omega (arith, e))
+accepted-zero Answer.NoRoom e = absurd (omega (arith, e))
+accepted-zero Answer.NoSpace e = absurd (omega (arith, e))
+
+pub refused-number : (a : EventAnswer) → (numberOf a ≡ 0 → ⊥) → isAccepted a ≡ false
+refused-number a k = same-test (isAccepted a) false (λ g. absurd (k (zero-accepted a g))) (λ g. absurd (false≢true g))
+
 -- "all unchanged", but one refused event more: answers 9 to 13, of what a call hands back
 pub refused-stays : (b : Book) (s : State) (bytes buffer : Bytes) (place : ℕ) (t : Tally) → (numberOf (taken b s bytes buffer place t .answer) ≡ 0 → ⊥)
     → (taken b s bytes buffer place t .state ≡ s) × (taken b s bytes buffer place t .book ≡ b) × (taken b s bytes buffer place t .rows ≡ 0)
@@ -198,12 +209,9 @@ pub refused-stays : (b : Book) (s : State) (bytes buffer : Bytes) (place : ℕ) 
 refused-stays b s bytes buffer place t h =
     let l : Lent = record { bytes = bytes; buffer = buffer; place = place; tally = t } in
     let a = taken-answer b s l in
-    let n : isAccepted (answerTo b s bytes buffer place) ≡ false = not-accepted (answerTo b s bytes buffer place) (λ z. h (ap numberOf a ∙ z)) in
+    let n : isAccepted (answerTo b s bytes buffer place) ≡ false = refused-number (answerTo b s bytes buffer place) (λ z. h (ap numberOf a ∙ z)) in
     let (e, f) = taken-refused b s l n in
     rw e (refl, refl, refl, refl, f)
-  where
-    not-accepted : (a : EventAnswer) → (numberOf a ≡ 0 → ⊥) → isAccepted a ≡ false
-    not-accepted a k = same-test (isAccepted a) false (λ g. absurd (k (zero-accepted a g))) (λ g. absurd (false≢true g))
 
 -- "A fresh state has all 128 disjunct places free and event number 0.": every number of it
 pub fresh-state : freshState
@@ -300,12 +308,12 @@ other-rules b s bytes buffer place t =
     n : ℕ
     n = numberOf (taken b s bytes buffer place t .answer)
 
--- the four rules written out, for the proof below; its statement has them in its own words
+-- the four rules written out; `twelve-rules` has them in its own words
 module _ (b : Plain.Book) (held : List Held) (e : Event) where
-  abbrev through : (p k : ℕ) → List Disjunct
+  abbrev pub through : (p k : ℕ) → List Disjunct
   through p k = skipThrough (take k (map (λ y. constraintOf y e) (b .symbols))) (labelOf held p)
 
-  abbrev FourRules : Type 0
+  abbrev pub FourRules : Type 0
   FourRules =
       ((q : ℕ) × List·Memᴰ q (positions b) × (128 < length (stepSet b held e q)))
       ⊎ (((p : ℕ) × (k : ℕ) × List·Memᴰ p (positions b) × (1 ≤ k) × (k ≤ length (b .symbols)) × (128 < length (through p k)))
@@ -324,6 +332,10 @@ module _ (b : Plain.Book) (held : List Held) (e : Event) where
   broken (inr (inl (p, k, m, i, j, h))) = skipSetOver p k m i j h
   broken (inr (inr (inl (p, k, m, i, j, (D, n, (x, o, h)))))) = seventhExclusion p k m i j D n x o h
   broken (inr (inr (inr h))) = allOver h
+
+  -- what `answered` and `no-room` call broken, for any book, label and event
+  pub broken-words : Broken b held e ↔ FourRules
+  broken-words = (ruled, broken)
 
 -- "No room, exactly: some step set, or some skip set after one of its symbols, exceeds 128; a variable would have 7 exclusions; or all new labels
 -- together exceed 128.": at any position, and nothing else
@@ -366,13 +378,5 @@ pub accepted-leaves : (b : Book) (s : State) (bytes buffer : Bytes) (place : ℕ
 unfolding stateBy rowsBy viewState
 accepted-leaves b s bytes buffer place t h =
     let l : Lent = record { bytes = bytes; buffer = buffer; place = place; tally = t } in
-    let (n, z, r, c) = taken-accepted b s l (was (answerTo b s bytes buffer place) (sym (ap numberOf (taken-answer b s l)) ∙ h)) in
+    let (n, z, r, c) = taken-accepted b s l (accepted-zero (answerTo b s bytes buffer place) (sym (ap numberOf (taken-answer b s l)) ∙ h)) in
     (z, n, c, r)
-  where
-    was : (a : EventAnswer) → numberOf a ≡ 0 → isAccepted a ≡ true
-    was Answer.Accepted e = refl
-    was Answer.Unsound e = absurd (omega (arith, e))
-    was Answer.OutOfForm e = absurd (omega (arith, e))
-    was Answer.TooMany e = absurd (omega (arith, e))
-    was Answer.NoRoom e = absurd (omega (arith, e))
-    was Answer.NoSpace e = absurd (omega (arith, e))

@@ -27,12 +27,11 @@ use Rattle.tally.specs.Tallies.{tallied}
 use Rattle.book.specs.declared.Book.{Book}
 use Rattle.state.specs.declared.State.{State}
 use Rattle.calls.specs.Answers.{numberOf}
-use Rattle.calls.specs.Calls.{freshState, isAccepted, taken, bufferAfter}
+use Rattle.calls.specs.Calls.{freshState, taken, bufferAfter}
 use Rattle.calls.specs.Runs.{Lent, Call, event, lentAt, allBytes, Made, make, runFrom, runOf, acceptedIn, recordsOf, traceOf, Within, Delivered}
 use Rattle.calls.specs.Runs.{heldFrom, heldAfter, TooShort, beyond, over, Judged, outOfForm, tooMany, noRoom, noSpace, accepted}
 use Rattle.calls.specs.Runs.{Partners, InOrder, Crossed}
-use Rattle.calls.specs.declared.EventAnswer.{EventAnswer}
-use Rattle.calls.specs.declared.EventAnswer.the-variants as Answer
+use Rattle.demands.proofs.Checks.{accepted-zero, refused-number}
 
 -- "A run is a list of event calls with one read book …, from the fresh state. Each call gets the state that the call before it returned or left"
 pub run-words : (b : Book) (s : State) (l : Lent) (cs : List Call)
@@ -54,28 +53,12 @@ pub trace-words : (m : Made) (ms : List Made)
     × (recordsOf ms ≡ map (λ m. m .lent .bytes) (acceptedIn ms)) × (traceOf ms ≡ map (λ m. eventIn (m .lent .bytes)) (acceptedIn ms))
 trace-words m ms = (
   refl,
-  λ h. rw (yes (m .taken .answer) h) refl,
-  λ h. rw (no (m .taken .answer) h) refl,
+  λ h. rw (accepted-zero (m .taken .answer) h) refl,
+  λ h. rw (refused-number (m .taken .answer) h) refl,
   refl,
   together (acceptedIn ms),
 )
   where
-    yes : (a : EventAnswer) → numberOf a ≡ 0 → isAccepted a ≡ true
-    yes Answer.Accepted h = refl
-    yes Answer.Unsound h = absurd (omega (arith, h))
-    yes Answer.OutOfForm h = absurd (omega (arith, h))
-    yes Answer.TooMany h = absurd (omega (arith, h))
-    yes Answer.NoRoom h = absurd (omega (arith, h))
-    yes Answer.NoSpace h = absurd (omega (arith, h))
-
-    no : (a : EventAnswer) → (numberOf a ≡ 0 → ⊥) → isAccepted a ≡ false
-    no Answer.Accepted h = absurd (h refl)
-    no Answer.Unsound h = refl
-    no Answer.OutOfForm h = refl
-    no Answer.TooMany h = refl
-    no Answer.NoRoom h = refl
-    no Answer.NoSpace h = refl
-
     together : (l : List Made) → map eventIn (map (λ m. m .lent .bytes) l) ≡ map (λ m. eventIn (m .lent .bytes)) l
     together [] = refl
     together (m ∷ l) = ap (eventIn (m .lent .bytes) ∷_) (together l)
@@ -126,17 +109,21 @@ meant-words tm t n σ = (
       },
 )
 
+-- l is, once each and in order, the valuations that are rows after event number n
+abbrev pub Exactly : Tracematch → List Event → ℕ → List Valuation → Type 0
+Exactly tm t n l = (ascending compareValuations l ≡ true) × ((σ : Valuation) → List·Memᴰ σ l ↔ Row tm t n σ)
+
 -- "the rows are, once each and in order, the valuations …", each with the event's number, from the lent place on, and all else as lent; the tally, and
 -- the number of the state that is handed back
 pub delivered-words : (tm : Tracematch) (t : List Event) (n : ℕ) (m : Made)
     → Delivered tm t n m
-    ↔ ((l : List Valuation) × (ascending compareValuations l ≡ true) × ((σ : Valuation) → List·Memᴰ σ l ↔ Row tm t n σ)
+    ↔ ((l : List Valuation) × Exactly tm t n l
     × (m .taken .rows ≡ length l) × (m .lent .place + 24 * length l ≤ length (m .lent .buffer))
     × (m .buffer ≡ splice (m .lent .place) (gather (rowBytes n (tm .variables)) l) (m .lent .buffer))
     × (m .taken .tally ≡ tallied (m .lent .tally) 1 0 (length l)) × (m .taken .state .number ≡ n))
 delivered-words tm t n m = (
-  λ d. (d .valuations, d .meant .ordered, d .meant .exact, d .counted, d .fitting, d .written, d .tallies, d .numbered),
-  λ (l, o, e, c, f, w, a, k).
+  λ d. (d .valuations, (d .meant .ordered, d .meant .exact), d .counted, d .fitting, d .written, d .tallies, d .numbered),
+  λ (l, (o, e), c, f, w, a, k).
       record {
         valuations = l;
         meant = record { ordered = o; exact = e };
@@ -157,56 +144,55 @@ after-words tm t e = (refl, behind [] t)
     behind h [] = refl
     behind h (x ∷ t) = behind (newHeld (bookOf tm) h x) t
 
--- "Events: 9 to 13 in that order", along a run, where 9 is never
-pub judged-words : (tm : Tracematch) (t : List Event) (l : Lent) (k : ℕ) → let e = eventIn (l .bytes) in
-    let Formed : Type 0 = (isRecord (l .bytes) ≡ true) × (length t < 1000000) in
-    let Room : Type 0 = Broken (bookOf tm) (heldAfter tm t) e → ⊥ in
-    Judged tm t l k
-    ↔ (((k ≡ 10) × (isRecord (l .bytes) ≡ false))
-    ⊎ (((k ≡ 11) × (isRecord (l .bytes) ≡ true) × (length t ≡ 1000000))
-    ⊎ (((k ≡ 12) × Formed × Broken (bookOf tm) (heldAfter tm t) e)
-    ⊎ (((k ≡ 13) × Formed × Room × TooShort tm t e (l .buffer) (l .place))
-    ⊎ ((k ≡ 0) × Formed × Room × (TooShort tm t e (l .buffer) (l .place) → ⊥))))))
-judged-words tm t l k = (forth, back)
-  where
-    Told : ℕ → Type 0
-    Told k =
-        ((k ≡ 10) × (isRecord (l .bytes) ≡ false))
-        ⊎ (((k ≡ 11) × (isRecord (l .bytes) ≡ true) × (length t ≡ 1000000))
-        ⊎ (((k ≡ 12) × ((isRecord (l .bytes) ≡ true) × (length t < 1000000)) × Broken (bookOf tm) (heldAfter tm t) (eventIn (l .bytes)))
-        ⊎ (((k ≡ 13) × ((isRecord (l .bytes) ≡ true) × (length t < 1000000)) × (Broken (bookOf tm) (heldAfter tm t) (eventIn (l .bytes)) → ⊥)
-        × TooShort tm t (eventIn (l .bytes)) (l .buffer) (l .place))
-        ⊎ ((k ≡ 0) × ((isRecord (l .bytes) ≡ true) × (length t < 1000000)) × (Broken (bookOf tm) (heldAfter tm t) (eventIn (l .bytes)) → ⊥)
-        × (TooShort tm t (eventIn (l .bytes)) (l .buffer) (l .place) → ⊥)))))
+module _ (tm : Tracematch) (t : List Event) (l : Lent) where
+  -- a record in form, and events left to accept
+  abbrev pub Usable : Type 0
+  Usable = (isRecord (l .bytes) ≡ true) × (length t < 1000000)
 
-    forth : {k : ℕ} → Judged tm t l k → Told k
-    forth (outOfForm h) = inl (refl, h)
-    forth (tooMany h n) = inr (inl (refl, h, n))
-    forth (noRoom h n b) = inr (inr (inl (refl, (h, n), b)))
-    forth (noSpace h n b s) = inr (inr (inr (inl (refl, (h, n), b, s))))
-    forth (accepted h n b s) = inr (inr (inr (inr (refl, (h, n), b, s))))
+  -- some room rule is broken (`broken-words`)
+  abbrev pub Crowded : Type 0
+  Crowded = Broken (bookOf tm) (heldAfter tm t) (eventIn (l .bytes))
 
-    back : {k : ℕ} → Told k → Judged tm t l k
-    back (inl (e, h)) = rw e (outOfForm h)
-    back (inr (inl (e, h, n))) = rw e (tooMany h n)
-    back (inr (inr (inl (e, (h, n), b)))) = rw e (noRoom h n b)
-    back (inr (inr (inr (inl (e, (h, n), b, s))))) = rw e (noSpace h n b s)
-    back (inr (inr (inr (inr (e, (h, n), b, s))))) = rw e (accepted h n b s)
+  -- the rows do not fit (`short-words`)
+  abbrev pub Short : Type 0
+  Short = TooShort tm t (eventIn (l .bytes)) (l .buffer) (l .place)
+
+  abbrev pub Answers : ℕ → Type 0
+  Answers k =
+      ((k ≡ 10) × (isRecord (l .bytes) ≡ false))
+      ⊎ (((k ≡ 11) × (isRecord (l .bytes) ≡ true) × (length t ≡ 1000000))
+      ⊎ (((k ≡ 12) × Usable × Crowded) ⊎ (((k ≡ 13) × Usable × (Crowded → ⊥) × Short) ⊎ ((k ≡ 0) × Usable × (Crowded → ⊥) × (Short → ⊥)))))
+
+  -- "Events: 9 to 13 in that order", along a run, where 9 is never
+  pub judged-words : (k : ℕ) → Judged tm t l k ↔ Answers k
+  judged-words k = (forth, back)
+    where
+      forth : {k : ℕ} → Judged tm t l k → Answers k
+      forth (outOfForm h) = inl (refl, h)
+      forth (tooMany h n) = inr (inl (refl, h, n))
+      forth (noRoom h n b) = inr (inr (inl (refl, (h, n), b)))
+      forth (noSpace h n b s) = inr (inr (inr (inl (refl, (h, n), b, s))))
+      forth (accepted h n b s) = inr (inr (inr (inr (refl, (h, n), b, s))))
+
+      back : {k : ℕ} → Answers k → Judged tm t l k
+      back (inl (e, h)) = rw e (outOfForm h)
+      back (inr (inl (e, h, n))) = rw e (tooMany h n)
+      back (inr (inr (inl (e, (h, n), b)))) = rw e (noRoom h n b)
+      back (inr (inr (inr (inl (e, (h, n), b, s))))) = rw e (noSpace h n b s)
+      back (inr (inr (inr (inr (e, (h, n), b, s))))) = rw e (accepted h n b s)
 
 -- "row buffer too short, or start place beyond it"
 pub short-words : (tm : Tracematch) (t : List Event) (e : Event) (buffer : Bytes) (place : ℕ)
     → TooShort tm t e buffer place
     ↔ ((length buffer < place)
-    ⊎ ((l : List Valuation) × (ascending compareValuations l ≡ true) × ((σ : Valuation) → List·Memᴰ σ l ↔ Row tm (t ++ (e ∷ [])) (suc (length t)) σ)
-    × (place ≤ length buffer) × (length buffer - place < 24 * length l)))
-short-words tm t e buffer place = (forth, λ r. ⊎-elim beyond (λ (l, o, x, p, s). over l (record { ordered = o; exact = x }) p s) r)
+    ⊎ ((l : List Valuation) × Exactly tm (t ++ (e ∷ [])) (suc (length t)) l × (place ≤ length buffer) × (length buffer - place < 24 * length l)))
+short-words tm t e buffer place = (forth, λ r. ⊎-elim beyond (λ (l, (o, x), p, s). over l (record { ordered = o; exact = x }) p s) r)
   where
     forth : TooShort tm t e buffer place
         → (length buffer < place)
-        ⊎ ((l : List Valuation) × (ascending compareValuations l ≡ true) × ((σ : Valuation) → List·Memᴰ σ l ↔ Row tm (t ++ (e ∷ [])) (suc (length t)) σ)
-        × (place ≤ length buffer) × (length buffer - place < 24 * length l))
+        ⊎ ((l : List Valuation) × Exactly tm (t ++ (e ∷ [])) (suc (length t)) l × (place ≤ length buffer) × (length buffer - place < 24 * length l))
     forth (beyond h) = inl h
-    forth (over l m p s) = inr (l, m .ordered, m .exact, p, s)
+    forth (over l m p s) = inr (l, (m .ordered, m .exact), p, s)
 
 -- "dependent ones in the same order"; "Two events concern a common valuation if some one valuation is concerned by both."
 pub order-kept : (tm : Tracematch) (t u : List Bytes) (p : Partners t u)

@@ -318,20 +318,16 @@ places-words d x =
           (omega (arith, ap length line, length-append first (gather (lineWritten vs) (take j ls)))),
     )
 
--- "variables from 0, then symbols", and the numbers that a pattern's names stand for: those of the lines, in their order
 -- as many declaring places as names
 pub places-counted : (d : Declarations) → length (spans d) ≡ length (d .variables) + length (d .symbols)
 places-counted d =
-    length-append (variableSpans 5 (d .variables)) _ ∙ ap₂ _+_ (variables-placed 5 (d .variables)) (symbols-placed _ (d .variables) (d .symbols))
+    length-append (variableSpans 5 (d .variables)) _ ∙ ap₂ _+_ (variables-counted 5 (d .variables)) (symbols-counted _ (d .variables) (d .symbols))
   where
-    variables-placed : (p : ℕ) (ws : List Bytes) → length (variableSpans p ws) ≡ length ws
-    variables-placed p [] = refl
-    variables-placed p (w ∷ ws) = ap suc (variables-placed _ ws)
+    symbols-counted : (p : ℕ) (vs : List Bytes) (ls : List SymbolLine) → length (symbolSpans p vs ls) ≡ length ls
+    symbols-counted p vs [] = refl
+    symbols-counted p vs (l ∷ ls) = ap suc (symbols-counted _ vs ls)
 
-    symbols-placed : (p : ℕ) (vs : List Bytes) (ls : List SymbolLine) → length (symbolSpans p vs ls) ≡ length ls
-    symbols-placed p vs [] = refl
-    symbols-placed p vs (l ∷ ls) = ap suc (symbols-placed _ vs ls)
-
+-- "variables from 0, then symbols", and the numbers that a pattern's names stand for: those of the lines, in their order
 pub names-words : (d : Declarations)
     → (symbolNames d ≡ map (λ l. l .name) (d .symbols)) × (allNames d ≡ d .variables ++ map (λ l. l .name) (d .symbols))
 names-words d = (refl, refl)
