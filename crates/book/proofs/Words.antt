@@ -1,5 +1,5 @@
 -- A book as the matcher sees it, in words, of any struct: what its counts reach, and nothing beyond. For the buyer, beside `nine-rules`,
--- `twelve-rules` and `accepted-leaves`, which speak by `viewBook`. And the numbers and places of a reading's answers, case by case.
+-- `twelve-rules` and `accepted-leaves`, which speak by `viewBook`. And what a reading hands back, with the numbers and places of its answers.
 use mathlib.Core.Path.{_≡_, refl}
 use mathlib.Core.List.{List, map}
 use Prim.Native.Nat.{ℕ}
@@ -11,6 +11,7 @@ use Rattle.book.specs.Answers.{numberOf, placeOf}
 use Rattle.book.specs.declared.ReadingAnswer.the-variants.{Accepted, TooLong, BadLine, AboveLimit, Redeclared}
 use Rattle.book.specs.declared.ReadingAnswer.the-variants.{Undeclared, BadPattern, EmptyWord, Unbound}
 use Rattle.book.specs.declared.Book.{Book}
+use Rattle.book.specs.declared.Reading.{Reading}
 use Rattle.book.specs.Books.{viewBook}
 
 -- "each a declared variable or `_`": tag 1 and the variable's number, tag 0
@@ -49,3 +50,7 @@ pub answer-words : (p : ℕ)
     × ((numberOf (Unbound p) ≡ 8) × (placeOf (Unbound p) ≡ p))
 answer-words p =
     ((refl, refl), (refl, refl), (refl, refl), (refl, refl), (refl, refl), (refl, refl), (refl, refl), (refl, refl), (refl, refl))
+
+-- what a reading hands back is this and nothing else
+pub reading-whole : (r : Reading) → r ≡ record { answer = r .answer; book = r .book; «begin_count» = r .«begin_count»; «end_count» = r .«end_count» }
+reading-whole r = refl

@@ -1,6 +1,7 @@
 // Fixed cases, run: the parts of the matcher alone (parts), the full pool (full), and here the calls that change a lent tally,
 // `counted::event` and `tally::count`: document 01's six events of B1 with refused ones between, whose answers, rows and counters are
-// printed, and counters that stop at the largest 64-bit value. Before them readings and names by the public calls.
+// printed, two rows where their counter has room for one, and counters that stop at the largest 64-bit value. Before them readings and
+// names by the public calls.
 mod full;
 mod parts;
 mod score;
@@ -15,8 +16,11 @@ ghost use mathlib.Core.Path.{_≡_};
 ghost use Rattle.tally.specs.Tallies.{tallied};
 ghost use Rattle.calls.specs.Calls.{taken, bufferAfter};
 
-// How many events there are, the buffer that is lent for rows, and the largest value of a counter.
-const EVENTS: usize = 9;
+// How many events there are, of which the last three are of a run of their own; the buffer that is lent for rows, and the largest value
+// of a counter.
+const EVENTS: usize = 12;
+
+const LAST: usize = 3;
 
 const ROOM: usize = 64;
 
@@ -103,8 +107,20 @@ fn byte(i: usize, k: usize) -> u8 {
         1,
         1,
         0,
+        1,
+        2,
+        1,
+        7,
+        1,
+        2,
+        1,
+        8,
+        2,
+        1,
+        1,
+        0,
     ];
-    table[(i % EVENTS * 4 + k % 4) % 36]
+    table[(i % EVENTS * 4 + k % 4) % 48]
 }
 
 fn record(i: usize) -> [u8; RECORD] {
@@ -139,12 +155,12 @@ fn counters(t: Tally) {
     number(t.rows, b"\n");
 }
 
-// A line for each event: answer, rows, and the tally.
-fn events(book: Book) {
+// A line for each event from one number up to another: answer, rows, and the tally.
+fn events(book: Book, from: usize, to: usize, counted: Tally) {
     let mut state = watch::fresh();
-    let mut tally = Tally::none();
-    let mut i: usize = 0;
-    while i < EVENTS {
+    let mut tally = counted;
+    let mut i = from;
+    while i < to {
         let r = taken_at(i, book, state, tally);
         let a = r.answer;
         number(watch::number_of(a) as u64, b" ");
@@ -153,6 +169,15 @@ fn events(book: Book) {
         state = r.state;
         tally = r.tally;
         i += 1;
+    }
+}
+
+// A tally with room for one row more.
+fn almost() -> Tally {
+    Tally {
+        accepted: 0,
+        refused: 0,
+        rows: LARGEST - 1,
     }
 }
 
@@ -196,7 +221,8 @@ fn told(text: &[u8]) -> Book {
 fn main() {
     read(b"vars d s\nsym a 123 _ s d\nsym b 209 d\nmatch a (b? | a)\n");
     let book = told(b"vars d s\nsym load 1 d s\nsym drop 2 d\nsym clean 3 d\nmatch load drop+\n");
-    events(book);
+    events(book, 0, EVENTS - LAST, Tally::none());
+    events(book, EVENTS - LAST, EVENTS, almost());
     counts();
     score::report(full::filled(book, score::none()));
     score::report(parts::tried(score::none()));

@@ -4,7 +4,7 @@ use mathlib.Core.Path.{_≡_, refl, sym, ap, _∙_}
 use mathlib.Core.Bool.{Bool, true, false, cond, not, _&&_, _||_, and-false, or-true, false≢true}
 use mathlib.Core.List.{List, [], _∷_, map, List·Memᴰ}
 use mathlib.Core.Logic.{_↔_, Iff·trans, _⊎_, inl, inr, ⊎-elim}
-use Prim.Native.Nat.{ℕ, suc, _+_, _*_, _≤_, _<_}
+use Prim.Native.Nat.{ℕ, suc, _+_, _-_, _*_, _^_, _≤_, _<_}
 use native.Mathlib.Omega.{arith}
 use borrow.Author.Tests.{eqb-true, eqb-false, eq-eqb, ltb-true, lt-ltb, not-true}
 use lib.Dec.{eqb, leb}
@@ -33,7 +33,8 @@ use Rattle.disjunct.specs.Disjuncts.{disjunctOf}
 use Rattle.state.specs.States.{stateOf, heldFirst, viewState}
 use Rattle.sound.specs.Soundness.{bookCounts, bookSound, stateCounts, stateSound}
 use Rattle.tally.specs.declared.Tally.{Tally}
-use Rattle.tally.specs.Tallies.{tallied}
+use Rattle.tally.specs.Tallies.{capped, tallied}
+use Rattle.tally.proofs.Tallies.{each, capped-more, capped-full}
 use Rattle.row.specs.RowBytes.{rowBytes}
 use Rattle.calls.specs.Answers.{Check, numberOf, firstOf}
 use Rattle.calls.specs.Calls as Calls
@@ -380,3 +381,34 @@ accepted-leaves b s bytes buffer place t h =
     let l : Lent = record { bytes = bytes; buffer = buffer; place = place; tally = t } in
     let (n, z, r, c) = taken-accepted b s l (accepted-zero (answerTo b s bytes buffer place) (sym (ap numberOf (taken-answer b s l)) ∙ h)) in
     (z, n, c, r)
+
+-- "Answers 9 to 13 to an event add one refused and leave the other two"; "a counter stops at the largest 64-bit value": the tally that a call hands back,
+-- in numbers and no other word
+pub tally-numbers : (b : Book) (s : State) (bytes buffer : Bytes) (place : ℕ) (t : Tally)
+    → let r = taken b s bytes buffer place t in
+    let Up : ℕ → ℕ → ℕ → Type 0 = λ x n y. (x + n < 2 ^ 64 → y ≡ x + n) × (2 ^ 64 ≤ x + n → y ≡ 2 ^ 64 - 1) in
+    (numberOf (r .answer) ≡ 0
+    → Up (t .accepted) 1 (r .tally .accepted) × Up (t .refused) 0 (r .tally .refused) × Up (t .rows) (r .rows) (r .tally .rows))
+    × ((numberOf (r .answer) ≡ 0 → ⊥)
+    → Up (t .accepted) 0 (r .tally .accepted) × Up (t .refused) 1 (r .tally .refused) × Up (t .rows) 0 (r .tally .rows))
+tally-numbers b s bytes buffer place t = (
+  λ h. let (_, n, c, _) = accepted-leaves b s bytes buffer place t h in
+      let (x, y, z) = each t 1 0 _ in (
+        told (t .accepted) 1 (ap (λ u. u .accepted) c ∙ x),
+        told (t .refused) 0 (ap (λ u. u .refused) c ∙ y),
+        told (t .rows) _ (ap (λ u. u .rows) c ∙ z ∙ ap (capped (t .rows)) (sym n)),
+      ),
+  λ h. let (_, _, _, c, _) = refused-stays b s bytes buffer place t h in
+      let (x, y, z) = each t 0 1 0 in (
+        told (t .accepted) 0 (ap (λ u. u .accepted) c ∙ x),
+        told (t .refused) 1 (ap (λ u. u .refused) c ∙ y),
+        told (t .rows) 0 (ap (λ u. u .rows) c ∙ z),
+      ),
+)
+  where
+    told : (x n : ℕ) {y : ℕ} → y ≡ capped x n → (x + n < 2 ^ 64 → y ≡ x + n) × (2 ^ 64 ≤ x + n → y ≡ 2 ^ 64 - 1)
+    told x n e = (λ h. e ∙ capped-more x n h, λ h. e ∙ capped-full x n h)
+
+-- what a call hands back is this and nothing else
+pub taken-whole : (r : Taken) → r ≡ record { answer = r .answer; rows = r .rows; book = r .book; state = r .state; tally = r .tally }
+taken-whole r = refl

@@ -1,20 +1,17 @@
 -- `cases::events` is safe and ends: the turns are counted.
-use Prim.Native.Nat.{_-_, _≤_}
+use Prim.Native.Nat.{_-_}
 use borrow.Author.Needs.{needs}
 use Rattle.cases.proofs.events.Statement.{statement}
 use Rattle.cases.proofs.events.Tie as tie
 
 abbrev Inv-loop : tie.InvT-loop
-Inv-loop book state₀ tally₀ i₀ behind after state tally i = i ≤ 9
+Inv-loop book from to counted state₀ i₀ behind after state tally i = Unit {0}
 
 abbrev μ-loop : tie.MeasureT-loop
-μ-loop book state₀ tally₀ i₀ behind after state tally i = 9 - i
+μ-loop book from to counted state₀ i₀ behind after state tally i = to - i
 
 fresh-requires : tie.Need-fresh-requires Inv-loop μ-loop
 fresh-requires c κs = search needs
-
-none-requires : tie.Need-none-requires Inv-loop μ-loop
-none-requires c κs = search needs
 
 loop-holds : tie.Need-loop-holds Inv-loop μ-loop
 loop-holds c = search needs
@@ -59,7 +56,6 @@ events-spec =
     Inv-loop
     μ-loop
     fresh-requires
-    none-requires
     loop-holds
     taken-at-requires
     number-of-requires
