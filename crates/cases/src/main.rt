@@ -1,7 +1,7 @@
 // Fixed cases, run: the parts of the matcher alone (parts), the full pool (full), and here the calls that change a lent tally,
 // `counted::event` and `tally::count`: document 01's six events of B1 with refused ones between, whose answers, rows and counters are
-// printed, two rows where their counter has room for one, and counters that stop at the largest 64-bit value. Before them readings and
-// names by the public calls.
+// printed, two rows where their counter has room for one, an unsound book, and counters that count several at once and stop at the largest
+// 64-bit value. Before them readings and names by the public calls.
 mod full;
 mod parts;
 mod score;
@@ -181,8 +181,9 @@ fn almost() -> Tally {
     }
 }
 
-// Counters that come to the largest value, and stay there.
+// Counters that count several at once, that come to the largest value, and stay there.
 fn counts() {
+    counters(count(Tally::none(), 3, 4, 5));
     let t = Tally {
         accepted: LARGEST - 1,
         refused: LARGEST,
@@ -223,6 +224,7 @@ fn main() {
     let book = told(b"vars d s\nsym load 1 d s\nsym drop 2 d\nsym clean 3 d\nmatch load drop+\n");
     events(book, 0, EVENTS - LAST, Tally::none());
     events(book, EVENTS - LAST, EVENTS, almost());
+    events(read(b""), 0, 2, Tally::none());
     counts();
     score::report(full::filled(book, score::none()));
     score::report(parts::tried(score::none()));
