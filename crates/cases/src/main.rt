@@ -70,57 +70,13 @@ fn count(tally: Tally, accepted: u64, refused: u64, rows: u64) -> Tally
 
 // The k-th byte that matters of event number i: kind, count, two arguments. The second is of kind 0, the eighth has a count above four.
 fn byte(i: usize, k: usize) -> u8 {
-    let table = [
-        1,
-        2,
-        1,
-        7,
-        0,
-        2,
-        1,
-        7,
-        1,
-        2,
-        2,
-        8,
-        2,
-        1,
-        1,
-        0,
-        2,
-        1,
-        1,
-        0,
-        3,
-        1,
-        2,
-        0,
-        2,
-        1,
-        2,
-        0,
-        2,
-        5,
-        1,
-        0,
-        2,
-        1,
-        1,
-        0,
-        1,
-        2,
-        1,
-        7,
-        1,
-        2,
-        1,
-        8,
-        2,
-        1,
-        1,
-        0,
-    ];
-    table[(i % EVENTS * 4 + k % 4) % 48]
+    let events =
+        b"\x01\x02\x01\x07\x00\x02\x01\x07\x01\x02\x02\x08\x02\x01\x01\x00\x02\x01\x01\x00\x03\x01\x02\x00\x02\x01\x02\x00\x02\x05\x01\x00\x02\x01\x01\x00";
+    let last = b"\x01\x02\x01\x07\x01\x02\x01\x08\x02\x01\x01\x00";
+    if i < EVENTS - LAST {
+        return events[(i * 4 + k % 4) % 36];
+    }
+    last[(i % LAST * 4 + k % 4) % 12]
 }
 
 fn record(i: usize) -> [u8; RECORD] {
