@@ -65,7 +65,7 @@ fn right_rows(rows: &[u8], n: usize, number: u8) -> usize {
 fn expect(book: Book, r: Run, bytes: [u8; RECORD], answer: usize, count: usize) -> Run {
     let mut rows = [0u8; ROOM];
     let s = r.state;
-    let t = crate::event(book, s, &bytes, &mut rows, 0, Tally::none());
+    let t = handed::counted_event(book, s, &bytes, &mut rows, 0, Tally::none());
     let a = t.answer;
     let next = t.state;
     let number = (next.number % 256) as u8;

@@ -1,5 +1,5 @@
 // Fixed cases, run: the parts of the matcher alone (parts), the full pool (full), and here the calls that change a lent tally,
-// `counted::event` and `tally::count`: document 01's six events of B1 with refused ones between, whose answers, rows and counters are
+// `counted::event` and `tally::count`, by `handed`: document 01's six events of B1 with refused ones between, whose answers, rows and counters are
 // printed, two rows where their counter has room for one, an unsound book, and counters that count several at once and stop at the largest
 // 64-bit value. Before them readings and names by the public calls.
 mod full;
@@ -8,13 +8,9 @@ mod score;
 
 use book::Book;
 use calls::Taken;
-use counted::Given;
 use record::RECORD;
 use state::State;
 use tally::Tally;
-ghost use mathlib.Core.Path.{_≡_};
-ghost use Rattle.tally.specs.Tallies.{tallied};
-ghost use Rattle.calls.specs.Calls.{taken, bufferAfter};
 
 // How many events there are, of which the last three are of a run of their own; the buffer that is lent for rows, and the largest value
 // of a counter.
@@ -25,48 +21,6 @@ const LAST: usize = 3;
 const ROOM: usize = 64;
 
 const LARGEST: u64 = 18446744073709551615;
-
-// All that an event call hands back, and the tally that it changed.
-fn joined(g: Given, t: Tally) -> Taken
-    ensures { λ r. ⌜ r ≡ record { answer = g .answer; rows = g .rows; book = g .book; state = g .state; tally = t } ⌝ }
-{
-    let answer = g.answer;
-    let book = g.book;
-    let state = g.state;
-    Taken {
-        answer: answer,
-        rows: g.rows,
-        book: book,
-        state: state,
-        tally: t,
-    }
-}
-
-// An event call with the tally lent.
-fn event(
-    book: Book,
-    state: State,
-    bytes: &[u8],
-    rows: &mut [u8],
-    place: usize,
-    tally: Tally,
-) -> Taken
-    ensures { λ r. ⌜ (r ≡ taken book state (now (bytes .entry)) (now (rows .entry)) place tally)
-        × (now (rows .exit) ≡ bufferAfter book state (now (bytes .entry)) (now (rows .entry)) place) ⌝ }
-{
-    let mut t = tally;
-    let g = counted::event(book, state, bytes, rows, place, &mut t);
-    joined(g, t)
-}
-
-// A tally lent to be counted on.
-fn count(tally: Tally, accepted: u64, refused: u64, rows: u64) -> Tally
-    ensures { λ r. ⌜ r ≡ tallied tally accepted refused rows ⌝ }
-{
-    let mut t = tally;
-    tally::count(&mut t, accepted, refused, rows);
-    t
-}
 
 // The k-th byte that matters of event number i: kind, count, two arguments. The second is of kind 0, the eighth has a count above four.
 fn byte(i: usize, k: usize) -> u8 {
@@ -97,7 +51,7 @@ fn place_of(i: usize) -> usize {
 fn taken_at(i: usize, book: Book, state: State, tally: Tally) -> Taken {
     let bytes = record(i);
     let mut rows = [0u8; ROOM];
-    event(book, state, &bytes, &mut rows, place_of(i), tally)
+    handed::counted_event(book, state, &bytes, &mut rows, place_of(i), tally)
 }
 
 fn number(n: u64, behind: &[u8]) {
@@ -139,15 +93,15 @@ fn almost() -> Tally {
 
 // Counters that count several at once, that come to the largest value, and stay there.
 fn counts() {
-    counters(count(Tally::none(), 3, 4, 5));
+    counters(handed::count(Tally::none(), 3, 4, 5));
     let t = Tally {
         accepted: LARGEST - 1,
         refused: LARGEST,
         rows: 0,
     };
-    let one = count(t, 1, 1, 5);
+    let one = handed::count(t, 1, 1, 5);
     counters(one);
-    counters(count(one, 1, 0, LARGEST));
+    counters(handed::count(one, 1, 0, LARGEST));
 }
 
 // A name of a text: start, size and bytes; of a number not declared 0, 0 and nothing.

@@ -1,4 +1,4 @@
--- `cases::event` meets its contract, which is that of `watch::event`: a walk of its MIR, by hand, since the borrow checker covers no
+-- `handed::lent_event` meets its contract, which is that of `watch::event`: a walk of its MIR, by hand, since the borrow checker covers no
 -- reference to a struct. The tally is copied into a local, which is lent for a lifetime that is made for the call of `counted::event`; both
 -- slices are given up; the local is taken back at its last value, and `joined` puts it beside the rest.
 -- The walk knows of each callee only that it meets its contract, and never looks into a struct.
@@ -70,15 +70,15 @@ use Rattle.counted.proofs.event as called
 use Rattle.counted.proofs.event.Symbol as called-def
 use Rattle.counted.proofs.event.Symbol.{name as #counted·event}
 use Rattle.counted.proofs.event.Met as called-thm
-use Rattle.cases.proofs.joined as joined
-use Rattle.cases.proofs.joined.Symbol as joined-def
-use Rattle.cases.proofs.joined.Symbol.{name as #cases·joined}
-use Rattle.cases.proofs.joined.Met as joined-thm
-use Rattle.cases.proofs.Lent.{mach, cell, put-in, take-out, typed}
-use Rattle.cases.proofs.event.Key.{name as #cases·event}
-use Rattle.cases.proofs.event as event
-use Rattle.cases.proofs.event.Statement as stated
-use Rattle.cases.proofs.event.Code as code
+use Rattle.handed.proofs.joined as joined
+use Rattle.handed.proofs.joined.Symbol as joined-def
+use Rattle.handed.proofs.joined.Symbol.{name as #handed·joined}
+use Rattle.handed.proofs.joined.Met as joined-thm
+use Rattle.handed.proofs.Lent.{mach, cell, put-in, take-out, typed}
+use Rattle.handed.proofs.lent_event.Key.{name as #handed·lent_event}
+use Rattle.handed.proofs.lent_event as event
+use Rattle.handed.proofs.lent_event.Statement as stated
+use Rattle.handed.proofs.lent_event.Code as code
 
 -- a parameter of a plain type, and one of which nothing is had at exit
 abbrev slot : RattleType → Slot 2
@@ -152,12 +152,12 @@ module _ {M : Type 1} (𝓤 : URA M) (H : Heap 𝓤) (A : Atoms 𝓤) (at-mem : 
     abbrev left : List ℕ → Taken → Val → List (Item 𝓤)
     left zs r v = ‵ (R.the-row .own r (v ∷ [])) ∷ ‵ (flft κ₀ q₀) ∷ ‵ (flft κ₁ q₁) ∷ ‵ (finally u8 (rw .name) zs) ∷ []
 
-    exits : (r : Taken) (zs : List ℕ) (v : Val) → r ≡ out → zs ≡ after → length zs ≡ length (rw .now) → ent 𝓤 (⋆ 𝓤 H A (left zs r v)) (Post v)
-    exits r zs v er ez l =
+    exits : (r : Taken) (zs : List ℕ) (v : Val) → r ≡ out → zs ≡ after → isBytes (by′ .now) ≡ true → length zs ≡ length (rw .now) → ent 𝓤 (⋆ 𝓤 H A (left zs r v)) (Post v)
+    exits r zs v er ez eb l =
         qed W (left zs r v) ∵
         suffices ! _ (ends-at 𝓤 H A event.ended stayed clauses W bound v r
         (tt, (tt, (tt, (zs, (tt, (tt, tt)))))) (tt, (tt, (tt, (l, (tt, (tt, tt))))))) $
-        says ! (er, ez) $
+        says ! (er, ez, eb) $
         nothing ! $ move ! (3 ∷ 0 ∷ []) $ join ! $ move ! (2 ∷ 0 ∷ []) $ join ! $ frame ! $
         -- [what the result owns; the rows' last bytes]
         nothing ! $ nothing ! $ fjoin ! $ nothing ! $ fjoin ! $ move ! (2 ∷ 0 ∷ []) $ fjoin ! $
@@ -234,7 +234,7 @@ module _ {M : Type 1} (𝓤 : URA M) (H : Heap 𝓤) (A : Atoms 𝓤) (at-mem : 
         ∷ ‵ (owns (B.the-row ∷ S.the-row ∷ ShrSlice (named 0) κ₀ u8 ∷ MutSlice (named 1) κ₁ u8 ∷ usize ∷ T.the-row ∷ []) a (at u)) ∷ []
 
     module _ (C : Calls 𝓤 H) (Λ : Loops 𝓤 H) (fm : FmC 𝓤 H (W .laws) C) (known-called : Triple 𝓤 (C #counted·event) Called)
-        (known-joined : Triple 𝓤 (C #cases·joined) Joined) where
+        (known-joined : Triple 𝓤 (C #handed·joined) Joined) where
       walk : ent 𝓤 (onEntry 𝓤 H A event.signature (κ₀, (κ₁, tt)) (q₀, (q₁, tt)) a (at u)) (WpFn 𝓤 H C Λ code.function given-values Post)
       walk =
           qed W entry ∵
@@ -305,11 +305,11 @@ module _ {M : Type 1} (𝓤 : URA M) (H : Heap 𝓤) (A : Atoms 𝓤) (at-mem : 
           move ! (11 ∷ 12 ∷ []) $ free1 ! $ move ! (9 ∷ 10 ∷ []) $ free1 ! $ move ! (7 ∷ 8 ∷ []) $ free1 ! $
           move ! (5 ∷ 6 ∷ []) $ free1 ! $ free0 ! $
           keep ! (0 ∷ 3 ∷ 2 ∷ 4 ∷ []) $
-          by ! (exits r (last-rows zs) v₂ (er ∙ same g (last-tally zs) out (e .0) (e .2)) (e .1) l)))))))))))))))))))))))))))
+          by ! (exits r (last-rows zs) v₂ (er ∙ same g (last-tally zs) out (e .0) (e .2)) (e .1) (e .3) l)))))))))))))))))))))))))))
 
   module _ (W : Given 𝓤 H A) where
     event-walks : (C : Calls 𝓤 H) (Λ : Loops 𝓤 H) → FmC 𝓤 H (W .laws) C → Triple 𝓤 (C #counted·event) Called
-        → Triple 𝓤 (C #cases·joined) Joined → Walks 𝓤 H A event.ended stayed (WpFn 𝓤 H C Λ code.function) clauses
+        → Triple 𝓤 (C #handed·joined) Joined → Walks 𝓤 H A event.ended stayed (WpFn 𝓤 H C Λ code.function) clauses
     event-walks C Λ fm known-called known-joined =
         let book-vals = LL.vals B.the-type B′.the-laws in
         let state-vals = LL.vals S.the-type S′.the-laws in
@@ -343,20 +343,20 @@ module _ {M : Type 1} (𝓤 : URA M) (H : Heap 𝓤) (A : Atoms 𝓤) (at-mem : 
 
 event-meets : {M : Type 1} (𝓤 : URA M) (H : Heap 𝓤) (A : Atoms 𝓤) → Given 𝓤 H A → (mem : Memory → SProp 𝓤) (run : Routine → Fun 𝓤)
     (𝓣 : Tables 𝓤 H) → Triple 𝓤 (𝓣 .C #counted·event) (Called 𝓤 H A mem run)
-    → Triple 𝓤 (𝓣 .C #cases·joined) (Joined 𝓤 H A mem run)
+    → Triple 𝓤 (𝓣 .C #handed·joined) (Joined 𝓤 H A mem run)
     → Meets 𝓤 H A event.signature (WpFn 𝓤 H (𝓣 .C) (𝓣 .Λ) code.function) (event.spec 𝓤 H A mem run)
 event-meets 𝓤 H A W mem run 𝓣 known-called known-joined =
     walk-meets 𝓤 H A event.ended stayed W (each-goes 𝓤 H A mem run W) (event.clauses 𝓤 H A mem run)
     (WpFn 𝓤 H (𝓣 .C) (𝓣 .Λ) code.function) (WpFn-mono 𝓤 H (W .laws) 𝓣 code.function)
     (event-walks 𝓤 H A mem run W (𝓣 .C) (𝓣 .Λ) (fmOf 𝓤 H (W .laws) 𝓣) known-called known-joined)
 
-pub event-spec : {M : Type 1} → stated.statement M
+pub lent-event-spec : {M : Type 1} → stated.statement M
 unfolding code.routine tablesOf
-event-spec 𝓤 H 𝓜 𝓖 𝓡 =
+lent-event-spec 𝓤 H 𝓜 𝓖 𝓡 =
     entered 𝓤 H (tripleOf 𝓤 H (𝓖 .A) event.signature (event.spec 𝓤 H (𝓖 .A) (𝓜 .mem) (𝓡 .run)))
-    (tables 𝓤 H 𝓜 𝓡 code.env .C) (tables 𝓤 H 𝓜 𝓡 code.env .Λ) #cases·event code.function (code.unfolded 𝓤 H 𝓜 𝓡)
+    (tables 𝓤 H 𝓜 𝓡 code.env .C) (tables 𝓤 H 𝓜 𝓡 code.env .Λ) #handed·lent_event code.function (code.unfolded 𝓤 H 𝓜 𝓡)
     (event-meets 𝓤 H (𝓖 .A) (rulesOf 𝓤 H 𝓜 𝓖) (𝓜 .mem) (𝓡 .run) (tablesOf 𝓤 H 𝓜 (tables 𝓤 H 𝓜 𝓡 code.env))
     (cited 𝓤 H (Called 𝓤 H (𝓖 .A) (𝓜 .mem) (𝓡 .run)) 𝓜 𝓡 code.env #counted·event called-def.routine
     code.calls-counted·event (called-thm.met 𝓤 H 𝓜 𝓖 𝓡))
-    (cited 𝓤 H (Joined 𝓤 H (𝓖 .A) (𝓜 .mem) (𝓡 .run)) 𝓜 𝓡 code.env #cases·joined joined-def.routine
-    code.calls-cases·joined (joined-thm.met 𝓤 H 𝓜 𝓖 𝓡)))
+    (cited 𝓤 H (Joined 𝓤 H (𝓖 .A) (𝓜 .mem) (𝓡 .run)) 𝓜 𝓡 code.env #handed·joined joined-def.routine
+    code.calls-handed·joined (joined-thm.met 𝓤 H 𝓜 𝓖 𝓡)))

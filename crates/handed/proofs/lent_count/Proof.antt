@@ -1,4 +1,4 @@
--- `cases::count` meets its contract: a walk of its MIR, by hand, since the borrow checker covers no reference to a struct.
+-- `handed::lent_count` meets its contract: a walk of its MIR, by hand, since the borrow checker covers no reference to a struct.
 -- The tally is copied into a local, which is lent for a lifetime that is made for the call; of `tally::count` the proof knows only that it
 -- meets its contract; the lifetime is ended, and the local is taken back at the last value that the callee names.
 -- The walk never looks into the struct: its laws come from the module that `rattle check` makes of it.
@@ -52,11 +52,11 @@ use Rattle.tally.proofs.count as counts
 use Rattle.tally.proofs.count.Symbol as counts-def
 use Rattle.tally.proofs.count.Symbol.{name as #tally·count}
 use Rattle.tally.proofs.count.Met as counts-thm
-use Rattle.cases.proofs.Lent.{mach, cell, put-in, take-out, typed}
-use Rattle.cases.proofs.count.Key.{name as #cases·count}
-use Rattle.cases.proofs.count as count
-use Rattle.cases.proofs.count.Statement as stated
-use Rattle.cases.proofs.count.Code as code
+use Rattle.handed.proofs.Lent.{mach, cell, put-in, take-out, typed}
+use Rattle.handed.proofs.lent_count.Key.{name as #handed·lent_count}
+use Rattle.handed.proofs.lent_count as count
+use Rattle.handed.proofs.lent_count.Statement as stated
+use Rattle.handed.proofs.lent_count.Code as code
 
 -- the two kinds of parameter, of which nothing is had at exit
 abbrev a-tally : Slot 0
@@ -205,11 +205,11 @@ count-meets 𝓤 H A W mem run 𝓣 known =
     (WpFn 𝓤 H (𝓣 .C) (𝓣 .Λ) code.function) (WpFn-mono 𝓤 H (W .laws) 𝓣 code.function)
     (count-walks 𝓤 H A mem run W (𝓣 .C) (𝓣 .Λ) (fmOf 𝓤 H (W .laws) 𝓣) known)
 
-pub count-spec : {M : Type 1} → stated.statement M
+pub lent-count-spec : {M : Type 1} → stated.statement M
 unfolding code.routine tablesOf
-count-spec 𝓤 H 𝓜 𝓖 𝓡 =
+lent-count-spec 𝓤 H 𝓜 𝓖 𝓡 =
     entered 𝓤 H (tripleOf 𝓤 H (𝓖 .A) count.signature (count.spec 𝓤 H (𝓖 .A) (𝓜 .mem) (𝓡 .run)))
-    (tables 𝓤 H 𝓜 𝓡 code.env .C) (tables 𝓤 H 𝓜 𝓡 code.env .Λ) #cases·count code.function (code.unfolded 𝓤 H 𝓜 𝓡)
+    (tables 𝓤 H 𝓜 𝓡 code.env .C) (tables 𝓤 H 𝓜 𝓡 code.env .Λ) #handed·lent_count code.function (code.unfolded 𝓤 H 𝓜 𝓡)
     (count-meets 𝓤 H (𝓖 .A) (givenOf 𝓤 H 𝓜 𝓖) (𝓜 .mem) (𝓡 .run) (tablesOf 𝓤 H 𝓜 (tables 𝓤 H 𝓜 𝓡 code.env))
     (cited 𝓤 H (Counts 𝓤 H (𝓖 .A) (𝓜 .mem) (𝓡 .run)) 𝓜 𝓡 code.env #tally·count counts-def.routine
     code.calls-tally·count (counts-thm.met 𝓤 H 𝓜 𝓖 𝓡)))

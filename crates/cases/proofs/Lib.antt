@@ -1,2 +1,0 @@
--- What the two walks by hand share.
-pub mod Lent

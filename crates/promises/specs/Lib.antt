@@ -1,0 +1,4 @@
+-- What is promised of the very results of the public calls: ReadResults (`read`, `name`, `name_place`), EventResults (`fresh`, `event`,
+-- `count`, and lists of event calls).
+pub mod ReadResults
+pub mod EventResults
