@@ -35,12 +35,12 @@ event-told a = record {
 
 -- a counter
 rises : (x n : ℕ) {y : ℕ} → y ≡ capped x n → Risen x n y
-rises x n e = record { below = λ h. e ∙ capped-more x n h; above = λ h. e ∙ capped-full x n h }
+rises x n e = record { below = λ h. e ∙ capped-more x n h; above = λ h. e ∙ capped-full x n (omega (arith, h)) }
 
 rises-one : (x n y z : ℕ) → Risen x n y → Risen x n z → y ≡ z
 rises-one x n y z p q =
     whether (ltb (x + n) (2 ^ 64)) (λ h. let l = ltb-true _ _ h in p .below l ∙ sym (q .below l))
-    λ h. let l = ltb-false (x + n) (2 ^ 64) h in p .above l ∙ sym (q .above l)
+    λ h. let l = ltb-false (x + n) (2 ^ 64) h in p .above (omega (arith, l)) ∙ sym (q .above (omega (arith, l)))
 
 -- a tally
 pub tally-given : (t : Tally) (a f r : ℕ) → TallyRises t a f r (tallied t a f r)

@@ -2,6 +2,7 @@
 -- `name-given`, `tally-given`, `event-given`), they leave one result (`reading-decided`, `place-decided`, `name-decided`, `tally-decided`,
 -- `event-decided`), and lists of results keep the demands (Results: `results`).
 pub mod Whether
+pub mod Formats
 pub mod ReadResults
 pub mod EventResults
 pub mod Results

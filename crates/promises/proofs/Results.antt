@@ -1,27 +1,44 @@
 -- `results`: from what the public calls hand back, and from nothing else, the demands. A text that `read` accepts has one list of declarations and
 -- one tree, and whatever event calls follow, each in the state that the one before it left, their results keep demands 2 and 3.
 use mathlib.Core.Path.{_≡_, refl, sym, ap, ap₂, subst, _∙_}
-use mathlib.Core.Bool.{true, _&&_}
+use mathlib.Core.Bool.{true, false, _&&_, false≢true}
 use mathlib.Core.List.{List, [], _∷_, map}
+use mathlib.Core.Logic.{_↔_}
+use Prim.Native.Nat.{ℕ, suc, _+_, _-_, _*_, _≤_, _<_}
+use native.Mathlib.Omega.{arith}
+use borrow.Author.Tests.{eqb-true}
+use lib.Dec.{eqb}
+use lib.ListN.{length, getD, take, drop}
+use lib.Seq.{getD-take, getD-drop}
+use Rattle.laws.proofs.Lists.{and-true-split}
 use Rattle.pattern.specs.Regex.{Regex}
+use Rattle.meaning.specs.Events.{Event, Valuation, isValuation}
 use Rattle.meaning.specs.Meaning.{Tracematch}
-use Rattle.form.specs.Text.{Bytes, Declarations, tracematchOf}
+use Rattle.meaning.specs.Runs.{Listed}
+use Rattle.form.specs.Text.{Bytes, isBytes, Declarations, tracematchOf}
 use Rattle.form.specs.Form.{Form}
+use Rattle.record.specs.Records.{isRecord}
 use Rattle.book.specs.declared.Book.{Book}
 use Rattle.book.specs.declared.Reading.{Reading}
-use Rattle.book.specs.Answers.{numberOf}
+use Rattle.book.specs.Answers as Reading
 use Rattle.book.specs.Books.{reading}
 use Rattle.state.specs.declared.State.{State}
+use Rattle.calls.specs.Answers.{numberOf}
 use Rattle.calls.specs.Calls.{freshState}
-use Rattle.calls.specs.Runs.{Call, event, Made, allBytes, make, runFrom, runOf, recordsOf, Partners, InOrder, Crossed}
+use Rattle.calls.specs.Runs.{Lent, Call, event, Made, allBytes, make, runFrom, runOf, acceptedIn, recordsOf, traceOf, Within, Delivered, Judged}
+use Rattle.calls.specs.Runs.{outOfForm, tooMany, noRoom, noSpace, accepted, Partners, InOrder, Crossed}
 use Rattle.demands.proofs.Checks.{fresh-state}
 use Rattle.demands.proofs.Listed.{listed}
 use Rattle.demands.proofs.Answered.{answered}
 use Rattle.demands.proofs.Crossed.{crossed}
+use Rattle.demands.proofs.RunWords.{crossed-words}
+use Rattle.promises.specs.Formats.{InRecord}
 use Rattle.promises.specs.ReadResults.{ReadGives}
-use Rattle.promises.specs.EventResults.{stateOfNothing, EventGives, Series, noCall, called, ResultsKeep}
+use Rattle.promises.specs.EventResults.{stateOfNothing, EventGives, Series, noCall, called, traceIn, RowsKept, RowsAlike, ResultsKeep}
+use Rattle.promises.proofs.Whether.{whether}
+use Rattle.promises.proofs.Formats.{event-read, record-read, Few, rows-read}
 use Rattle.promises.proofs.ReadResults.{read-given, reading-decided}
-use Rattle.promises.proofs.EventResults.{event-given, event-decided}
+use Rattle.promises.proofs.EventResults.{tally-given, event-given, event-decided}
 
 -- the calls that were made
 abbrev lentTo : List Made → List Call
@@ -44,6 +61,14 @@ series-run b s (m ∷ ms) (called g c) =
     let (x, y) = series-run b (m .taken .state) ms c in
     (ap₂ _∷_ e (x ∙ ap (λ k. runFrom b (k .taken .state) (lentTo ms)) e), ap₂ _&&_ (g .lent) y)
 
+-- every list of calls has such results
+pub series-given : (b : Book) (s : State) (cs : List Call) → allBytes cs ≡ true → Series b s (runFrom b s cs)
+unfolding make
+series-given b s [] h = noCall
+series-given b s (event l ∷ cs) h =
+    let (x, y) = and-true-split (isBytes (l .bytes)) (allBytes cs) h in
+    called (event-given b s (l .bytes) (l .buffer) (l .place) (l .tally) x) (series-given b _ cs y)
+
 -- demand 3's claim about two lists
 abbrev CrossedOn : Tracematch → List Made → List Made → Type 0
 CrossedOn tm xs ys = (p : Partners (recordsOf xs) (recordsOf ys)) → InOrder tm (recordsOf xs) (recordsOf ys) p → Crossed tm xs ys p
@@ -51,22 +76,90 @@ CrossedOn tm xs ys = (p : Partners (recordsOf xs) (recordsOf ys)) → InOrder tm
 crossed-on : (tm : Tracematch) {xs ys us vs : List Made} → xs ≡ us → ys ≡ vs → CrossedOn tm us vs → CrossedOn tm xs ys
 crossed-on tm {ys = ys} {us = us} e f c = subst (λ l. CrossedOn tm l ys) (sym e) (subst (λ l. CrossedOn tm us l) (sym f) c)
 
-pub results : (text : Bytes) (r : Reading) → ReadGives text r → numberOf (r .answer) ≡ 0
+-- the trace is that of the bytes
+trace-read : (ms : List Made) → traceOf ms ≡ traceIn ms
+trace-read ms = ap (λ f. map f (recordsOf ms)) event-read
+
+module _ (text : Bytes) (d : Declarations) (q : Regex) (f : Form text d q) where
+  abbrev tmDeclared : Tracematch
+  tmDeclared = tracematchOf d q
+
+  -- a row has a value for each variable
+  few : {t : List Event} {n : ℕ} {l : List Valuation} → Listed tmDeclared t n l → Few l
+  unfolding isValuation
+  few m σ h =
+      let e : length σ ≡ tmDeclared .variables = eqb-true _ _ (and-true-split (eqb (length σ) (tmDeclared .variables)) _ (m .exact σ .0 h .valuation) .0) in
+      omega (arith, e, f .shape .fewVariables)
+
+  -- demand 2 of a call, in bytes
+  kept : {t : List Event} {n : ℕ} {m : Made} → Delivered tmDeclared t n m → RowsKept tmDeclared t n m
+  kept {n = n} {m = m} w = record {
+    valuations = w .valuations;
+    meant = w .meant;
+    counted = w .counted;
+    written = rw (w .written) (rows-read (m .lent .buffer) (m .lent .place) n (tmDeclared .variables) (w .valuations) (few (w .meant)) (w .fitting));
+    tallies = rw (w .tallies) (tally-given (m .lent .tally) 1 0 (length (w .valuations)));
+    numbered = w .numbered;
+  }
+
+  -- demand 3 of two calls, in bytes
+  alike : {m n : Made} → m .taken .rows ≡ n .taken .rows
+      → ((j : ℕ) → j < m .taken .rows
+      → take 20 (drop (m .lent .place + 24 * j + 4) (m .buffer)) ≡ take 20 (drop (n .lent .place + 24 * j + 4) (n .buffer)))
+      → RowsAlike m n
+  alike {m} {n} e g = record {
+    counts = e;
+    bytes = λ j h k i l. part (m .buffer) (m .lent .place + 24 * j) k i l
+        ∙ ap (λ s. getD s (k - 4) 0) (g j h) ∙ sym (part (n .buffer) (n .lent .place + 24 * j) k i l);
+  }
+    where
+      part : (s : Bytes) (p k : ℕ) → 4 ≤ k → k < 24 → getD s (p + k) 0 ≡ getD (take 20 (drop (p + 4) s)) (k - 4) 0
+      part s p k i l = sym (getD-take 20 (drop (p + 4) s) (k - 4) 0 (omega arith) ∙ getD-drop (p + 4) s (k - 4) 0 ∙ ap (λ z. getD s z 0) (omega arith))
+
+  -- 10 is for what is no record, and for nothing else
+  judged-ten : {t : List Event} {l : Lent} {n : ℕ} → Judged tmDeclared t l n → (n ≡ 10) ↔ (isRecord (l .bytes) ≡ false)
+  judged-ten (outOfForm h) = (λ _. h, λ _. refl)
+  judged-ten (tooMany h k) = (λ e. absurd (omega (arith, e)), λ e. absurd (false≢true (sym e ∙ h)))
+  judged-ten (noRoom h k b) = (λ e. absurd (omega (arith, e)), λ e. absurd (false≢true (sym e ∙ h)))
+  judged-ten (noSpace h k b s) = (λ e. absurd (omega (arith, e)), λ e. absurd (false≢true (sym e ∙ h)))
+  judged-ten (accepted h k b s) = (λ e. absurd (omega (arith, e)), λ e. absurd (false≢true (sym e ∙ h)))
+
+  ten-read : {t : List Event} {l : Lent} {n : ℕ} → Judged tmDeclared t l n → (n ≡ 10) ↔ (InRecord (l .bytes) → ⊥)
+  ten-read {l = l} j = (
+    λ e r. false≢true (sym (judged-ten j .0 e) ∙ record-read (l .bytes) .1 r),
+    λ h. whether (isRecord (l .bytes)) (λ e. absurd (h (record-read (l .bytes) .0 e))) (judged-ten j .1),
+  )
+
+  -- the book that was read, and lists of calls over it
+  module _ (same : (ms : List Made) → Series (reading text .book) stateOfNothing ms
+      → (ms ≡ runOf (reading text .book) (lentTo ms)) × (allBytes (lentTo ms) ≡ true)) where
+    rows-kept : (ms : List Made) → Series (reading text .book) stateOfNothing ms → (i : ℕ) (m : Made) → Within (acceptedIn ms) i m
+        → RowsKept tmDeclared (traceIn ms) (suc i) m
+    rows-kept ms c i m w =
+        let (x, y) = same ms c in
+        rw (← trace-read ms) (kept (rw x (listed text d q f (lentTo ms) y i m (rw x at w))))
+
+    answers-kept : (ms : List Made) → Series (reading text .book) stateOfNothing ms → (k : ℕ) (m : Made) → Within ms k m
+        → Judged tmDeclared (traceIn (take k ms)) (m .lent) (numberOf (m .taken .answer))
+    answers-kept ms c k m w =
+        let (x, y) = same ms c in
+        rw (← trace-read (take k ms)) (rw x (answered text d q f (lentTo ms) y k m (rw x at w)))
+
+    keeps : ResultsKeep tmDeclared (reading text .book)
+    keeps = record {
+      rows = rows-kept;
+      answers = answers-kept;
+      ten = λ ms c k m w. ten-read (answers-kept ms c k m w);
+      crossed = λ xs ys a c p o i m n w v.
+          let (x, y) = same xs a in
+          let (z, u) = same ys c in
+          let (_, _, e, g) = crossed-words tmDeclared xs ys p (crossed-on tmDeclared x z (crossed text d q f (lentTo xs) (lentTo ys) y u) p (rw event-read o)) i m n w v in
+          (rows-kept xs a i m w, rows-kept ys c (p .to i) n v, alike e g);
+    }
+
+pub results : (text : Bytes) (r : Reading) → ReadGives text r → Reading.numberOf (r .answer) ≡ 0
     → (d : Declarations) × (q : Regex) × Form text d q × ResultsKeep (tracematchOf d q) (r .book)
 results text r g h =
     let e : r ≡ reading text = reading-decided text r _ g (read-given text (g .lent)) in
     let (d, q, f) = g .accepted .0 h in
-    let same : (ms : List Made) → Series (r .book) stateOfNothing ms → (ms ≡ runOf (reading text .book) (lentTo ms)) × (allBytes (lentTo ms) ≡ true) =
-    λ ms c. series-run (reading text .book) freshState ms (rw (fresh-state, ← e) c) in (
-      d,
-      q,
-      f,
-      record {
-        rows = λ ms c i m w. let (x, y) = same ms c in rw x (listed text d q f (lentTo ms) y i m (rw x at w));
-        answers = λ ms c k m w. let (x, y) = same ms c in rw x (answered text d q f (lentTo ms) y k m (rw x at w));
-        crossed = λ xs ys a c.
-            let (x, i) = same xs a in
-            let (y, j) = same ys c in
-            crossed-on (tracematchOf d q) x y (crossed text d q f (lentTo xs) (lentTo ys) i j);
-      },
-    )
+    (d, q, f, rw e (keeps text d q f (λ ms c. series-run (reading text .book) freshState ms (rw fresh-state c))))

@@ -2,15 +2,17 @@
 -- these for contracts, `event-decided` says that they leave one result, and `results` that lists of such results keep the demands. For the buyer.
 use mathlib.Core.Path.{_≡_}
 use mathlib.Core.Bool.{true, false}
-use mathlib.Core.List.{List, [], _∷_}
-use Prim.Native.Nat.{ℕ, suc, _+_, _-_, _^_, _≤_, _<_}
-use lib.ListN.{length, take, replicate}
+use mathlib.Core.List.{List, [], _∷_, map}
+use mathlib.Core.Logic.{_↔_}
+use Prim.Native.Nat.{ℕ, suc, _+_, _-_, _*_, _^_, _≤_, _<_}
+use lib.ListN.{length, getD, take, replicate}
 use Rattle.laws.specs.Lists.{gather}
 use Rattle.laws.specs.Parts.{splice}
-use Rattle.meaning.specs.Events.{Valuation}
+use Rattle.meaning.specs.Events.{Event, Valuation}
 use Rattle.meaning.specs.Meaning.{Tracematch}
 use Rattle.meaning.specs.Labels.{newHeld}
 use Rattle.meaning.specs.Rows.{rows}
+use Rattle.meaning.specs.Runs.{Listed, Ordered}
 use Rattle.form.specs.Text.{Bytes, isBytes}
 use Rattle.record.specs.Records.{eventIn}
 use Rattle.book.specs.declared.Book.{Book}
@@ -24,7 +26,8 @@ use Rattle.calls.specs.declared.EventAnswer.the-variants.{Accepted, Unsound, Ou
 use Rattle.calls.specs.declared.Taken.{Taken}
 use Rattle.calls.specs.Answers.{numberOf}
 use Rattle.calls.specs.Checks.{FirstFailing}
-use Rattle.calls.specs.Runs.{Made, acceptedIn, recordsOf, traceOf, Within, Delivered, Judged, Partners, InOrder, Crossed}
+use Rattle.calls.specs.Runs.{Made, acceptedIn, recordsOf, Within, Judged, Partners}
+use Rattle.promises.specs.Formats.{InRecord, eventOfBytes, RowsIn}
 
 -- n is the number, and p the place, of an event's answer: the table of "What a call hands back", 0 and 9 to 13
 pub record EventTold (a : EventAnswer) (n p : ℕ) : Type 0 where
@@ -79,13 +82,37 @@ pub data Series (b : Book) : State → List Made → Type 0 where
       → EventGives b s (m .lent .bytes) (m .lent .buffer) (m .lent .place) (m .lent .tally) (m .taken) (m .buffer) → Series b (m .taken .state) ms
       → Series b s (m ∷ ms)
 
--- the demands, of the results of any event calls over a book, one behind the other from the state of nothing
+-- the events of the accepted calls, from the bytes that were lent
+abbrev pub traceIn : List Made → List Event
+traceIn ms = map eventOfBytes (recordsOf ms)
+
+-- demand 2 for one accepted call, the n-th of the trace t: its rows, byte by byte, are the valuations of the declarative meaning, "once each and in
+-- order"; all else in the buffer is as lent; one accepted event and these rows are tallied
+pub record RowsKept (tm : Tracematch) (t : List Event) (n : ℕ) (m : Made) : Type 0 where
+  pub valuations : List Valuation
+  pub meant : Listed tm t n valuations
+  pub counted : m .taken .rows ≡ length valuations
+  pub written : RowsIn (m .lent .buffer) (m .buffer) (m .lent .place) n (tm .variables) valuations
+  pub tallies : TallyRises (m .lent .tally) 1 0 (length valuations) (m .taken .tally)
+  pub numbered : m .taken .state .number ≡ n
+
+-- demand 3 for partners: "the same row count, and bytes 4 to 23 of their rows are equal, first row to last, as each call left them"
+pub record RowsAlike (m n : Made) : Type 0 where
+  pub counts : m .taken .rows ≡ n .taken .rows
+  pub bytes : (j : ℕ) → j < m .taken .rows → (k : ℕ) → 4 ≤ k → k < 24
+      → getD (m .buffer) (m .lent .place + 24 * j + k) 0 ≡ getD (n .buffer) (n .lent .place + 24 * j + k) 0
+
+-- the demands, of the results of any event calls over a book, one behind the other from the fresh state
 pub record ResultsKeep (tm : Tracematch) (b : Book) : Type 0 where
   -- demand 2: the rows of each accepted call
-  pub rows : (ms : List Made) → Series b stateOfNothing ms → (i : ℕ) (m : Made) → Within (acceptedIn ms) i m → Delivered tm (traceOf ms) (suc i) m
+  pub rows : (ms : List Made) → Series b stateOfNothing ms → (i : ℕ) (m : Made) → Within (acceptedIn ms) i m → RowsKept tm (traceIn ms) (suc i) m
   -- the answer to each call: 10, 11, 12, 13 or 0 by the stated rules, and never 9
   pub answers : (ms : List Made) → Series b stateOfNothing ms → (k : ℕ) (m : Made) → Within ms k m
-      → Judged tm (traceOf (take k ms)) (m .lent) (numberOf (m .taken .answer))
-  -- demand 3: one claim about two whole lists of calls
+      → Judged tm (traceIn (take k ms)) (m .lent) (numberOf (m .taken .answer))
+  pub ten : (ms : List Made) → Series b stateOfNothing ms → (k : ℕ) (m : Made) → Within ms k m
+      → (numberOf (m .taken .answer) ≡ 10) ↔ (InRecord (m .lent .bytes) → ⊥)
+  -- demand 3: one claim about two whole lists of calls; "the rows are those of demand 2 over the trace of each one's own run"
   pub crossed : (xs ys : List Made) → Series b stateOfNothing xs → Series b stateOfNothing ys
-      → (p : Partners (recordsOf xs) (recordsOf ys)) → InOrder tm (recordsOf xs) (recordsOf ys) p → Crossed tm xs ys p
+      → (p : Partners (recordsOf xs) (recordsOf ys)) → Ordered [] eventOfBytes tm (recordsOf xs) (recordsOf ys) p
+      → (i : ℕ) (m n : Made) → Within (acceptedIn xs) i m → Within (acceptedIn ys) (p .to i) n
+      → RowsKept tm (traceIn xs) (suc i) m × RowsKept tm (traceIn ys) (suc (p .to i)) n × RowsAlike m n

@@ -1,0 +1,135 @@
+-- Records and rows in numbers are those of the definitions that the event call is decided by.
+use mathlib.Core.Path.{_≡_, refl, sym, ap, ap₂, _∙_}
+use mathlib.Core.Bool.{true, false, _&&_}
+use mathlib.Core.List.{List, [], _∷_, _++_, List·Memᴰ, List·Memᴰ·head, List·Memᴰ·tail}
+use mathlib.Core.Logic.{_↔_}
+use Prim.Native.Nat.{ℕ, zero, suc, _+_, _-_, _*_, _/_, _%_, _≤_, _<_}
+use native.Mathlib.Omega.{arith}
+use borrow.Author.Tests.{eqb-true, eq-eqb, leb-true, le-leb, ltb-true, ltb-false}
+use lib.Dec.{eqb, leb, ltb}
+use lib.ListN.{length, getD, drop, List·getD-append, List·getD-eq-default}
+use lib.Seq.{getD-append-add, getD-drop}
+use Rattle.laws.specs.Lists.{all, gather}
+use Rattle.laws.specs.Parts.{splice, pad}
+use Rattle.laws.proofs.Lists.{and-true-split, all-getD, all-indexed}
+use Rattle.laws.proofs.Parts.{splice-length, splice-before, splice-within, splice-after}
+use Rattle.meaning.specs.Events.{Valuation}
+use Rattle.form.specs.Text.{Bytes}
+use Rattle.record.specs.Records.{wordAt, argumentsIn, isRecord, eventIn}
+use Rattle.row.specs.RowBytes.{wordBytes, rowBytes}
+use Rattle.row.proofs.RowBytes.{gather-length, row-length}
+use Rattle.promises.proofs.Whether.{whether}
+use Rattle.promises.specs.Formats.{wordFrom, InRecord, eventOfBytes, WordAt, RowAt, RowsIn}
+
+pub event-read : eventIn ≡ eventOfBytes
+unfolding eventIn argumentsIn wordAt
+event-read = refl
+
+-- the argument words, by their numbers
+words-read : (s : Bytes) (k : ℕ) → k < 4 → getD (argumentsIn s) k 0 ≡ wordFrom s (4 + 4 * k)
+unfolding argumentsIn wordAt
+words-read s zero h = refl
+words-read s (suc zero) h = refl
+words-read s (suc (suc zero)) h = refl
+words-read s (suc (suc (suc zero))) h = refl
+words-read s (suc (suc (suc (suc k)))) h = absurd (omega arith)
+
+words-length : (s : Bytes) → length (argumentsIn s) ≡ 4
+unfolding argumentsIn
+words-length s = refl
+
+pub record-read : (s : Bytes) → (isRecord s ≡ true) ↔ InRecord s
+unfolding isRecord
+record-read s = (forth, back)
+  where
+    forth : isRecord s ≡ true → InRecord s
+    forth h =
+        let (x, words) = and-true-split _ _ h in
+        let (y, third) = and-true-split _ _ x in
+        let (z, second) = and-true-split _ _ y in
+        let (w, count) = and-true-split _ _ z in
+        let (size, kind) = and-true-split (eqb (length s) 20) _ w in
+        record {
+          size = eqb-true (length s) 20 size;
+          kind = leb-true 1 (getD s 0 0) kind;
+          count = leb-true (getD s 1 0) 4 count;
+          zeros = (eqb-true (getD s 2 0) 0 second, eqb-true (getD s 3 0) 0 third);
+          beyond = λ k p q.
+              let e : getD s 1 0 + (k - getD s 1 0) ≡ k = omega (arith, p) in
+              let zero-there = eqb-true 0 _ (all-getD (eqb 0) (drop (getD s 1 0) (argumentsIn s)) (k - getD s 1 0) 0 refl words) in
+              sym (words-read s k q) ∙ ap (λ i. getD (argumentsIn s) i 0) (sym e)
+              ∙ sym (getD-drop (getD s 1 0) (argumentsIn s) (k - getD s 1 0) 0) ∙ sym zero-there;
+        }
+
+    back : InRecord s → isRecord s ≡ true
+    back r =
+        let there : (i : ℕ) → getD (drop (getD s 1 0) (argumentsIn s)) i 0 ≡ 0 = λ i.
+        getD-drop (getD s 1 0) (argumentsIn s) i 0
+        ∙ whether (ltb (getD s 1 0 + i) 4)
+        (λ h. let l = ltb-true _ 4 h in words-read s _ l ∙ r .beyond _ (omega arith) l)
+        (λ h. List·getD-eq-default (argumentsIn s) 0 (omega (arith, words-length s, ltb-false (getD s 1 0 + i) 4 h))) in
+        let words = all-indexed (eqb 0) 0 (drop (getD s 1 0) (argumentsIn s)) (λ i. eq-eqb 0 _ (sym (there i))) in
+        ap₂ _&&_ (ap₂ _&&_ (ap₂ _&&_ (ap₂ _&&_ (ap₂ _&&_ (eq-eqb (length s) 20 (r .size)) (le-leb 1 _ (r .kind))) (le-leb _ 4 (r .count)))
+        (eq-eqb _ 0 (r .zeros .0))) (eq-eqb _ 0 (r .zeros .1))) words
+
+-- the bytes of a row, every one
+abbrev wordThen : ℕ → List ℕ → List ℕ
+wordThen x l = x % 256 ∷ x / 256 % 256 ∷ x / 65536 % 256 ∷ x / 16777216 % 256 ∷ l
+
+abbrev rowOf : (n v : ℕ) → Valuation → List ℕ
+rowOf n v σ = wordThen n (v ∷ 0 ∷ 0 ∷ 0 ∷ wordThen (getD σ 0 0) (wordThen (getD σ 1 0) (wordThen (getD σ 2 0) (wordThen (getD σ 3 0) []))))
+
+row-listed : (n v : ℕ) (σ : Valuation) → length σ ≤ 4 → rowBytes n v σ ≡ rowOf n v σ
+unfolding rowBytes wordBytes pad
+row-listed n v [] h = refl
+row-listed n v (a ∷ []) h = refl
+row-listed n v (a ∷ b ∷ []) h = refl
+row-listed n v (a ∷ b ∷ c ∷ []) h = refl
+row-listed n v (a ∷ b ∷ c ∷ d ∷ []) h = refl
+row-listed n v (a ∷ b ∷ c ∷ d ∷ e ∷ σ) h = absurd (omega arith)
+
+abbrev pub Few : List Valuation → Type 0
+Few l = (σ : Valuation) → List·Memᴰ σ l → length σ ≤ 4
+
+-- byte r of row j stands 24 times j behind the first row's
+row-byte : (n v : ℕ) (l : List Valuation) → Few l → (j r : ℕ) → j < length l → r < 24
+    → getD (gather (rowBytes n v) l) (24 * j + r) 0 ≡ getD (rowOf n v (getD l j [])) r 0
+row-byte n v [] few j r h k = absurd (omega arith)
+row-byte n v (σ ∷ l) few zero r h k =
+    ap (λ i. getD (rowBytes n v σ ++ gather (rowBytes n v) l) i 0) (omega arith)
+    ∙ List·getD-append (rowBytes n v σ) _ 0 r (omega (arith, row-length n v σ (few σ (List·Memᴰ·head refl))))
+    ∙ ap (λ b. getD b r 0) (row-listed n v σ (few σ (List·Memᴰ·head refl)))
+row-byte n v (σ ∷ l) few (suc j) r h k =
+    let e : length (rowBytes n v σ) + (24 * j + r) ≡ 24 * suc j + r = omega (arith, row-length n v σ (few σ (List·Memᴰ·head refl))) in
+    ap (λ i. getD (rowBytes n v σ ++ gather (rowBytes n v) l) i 0) (sym e) ∙ getD-append-add (rowBytes n v σ) _ (24 * j + r) 0
+    ∙ row-byte n v l (λ τ m. few τ (List·Memᴰ·tail m)) j r (omega arith) k
+
+-- from the bytes of one row to their names
+row-named : (n v : ℕ) (σ : Valuation) {s : Bytes} {p : ℕ} → ((r : ℕ) → r < 24 → getD s (p + r) 0 ≡ getD (rowOf n v σ) r 0) → RowAt s p n v σ
+row-named n v σ {s} {p} at = record {
+  number = record { lowest = byte 0 (omega arith) (omega arith); second = byte 1 (omega arith) (omega arith); third = byte 2 (omega arith) (omega arith); highest = byte 3 (omega arith) (omega arith) };
+  variables = byte 4 (omega arith) (omega arith);
+  zeros = (byte 5 (omega arith) (omega arith), byte 6 (omega arith) (omega arith), byte 7 (omega arith) (omega arith));
+  first = record { lowest = byte 8 (omega arith) (omega arith); second = byte 9 (omega arith) (omega arith); third = byte 10 (omega arith) (omega arith); highest = byte 11 (omega arith) (omega arith) };
+  second = record { lowest = byte 12 (omega arith) (omega arith); second = byte 13 (omega arith) (omega arith); third = byte 14 (omega arith) (omega arith); highest = byte 15 (omega arith) (omega arith) };
+  third = record { lowest = byte 16 (omega arith) (omega arith); second = byte 17 (omega arith) (omega arith); third = byte 18 (omega arith) (omega arith); highest = byte 19 (omega arith) (omega arith) };
+  fourth = record { lowest = byte 20 (omega arith) (omega arith); second = byte 21 (omega arith) (omega arith); third = byte 22 (omega arith) (omega arith); highest = byte 23 (omega arith) (omega arith) };
+}
+  where
+    byte : {i : ℕ} (r : ℕ) → i ≡ p + r → r < 24 → getD s i 0 ≡ getD (rowOf n v σ) r 0
+    byte r e h = ap (λ k. getD s k 0) e ∙ at r h
+
+pub rows-read : (buffer : Bytes) (place n v : ℕ) (l : List Valuation) → Few l → place + 24 * length l ≤ length buffer
+    → RowsIn buffer (splice place (gather (rowBytes n v) l) buffer) place n v l
+rows-read buffer place n v l few h =
+    let size : length (gather (rowBytes n v) l) ≡ 24 * length l = omega (arith, gather-length (rowBytes n v) 24 l (λ σ m. row-length n v σ (few σ m))) in
+    let inside : place + length (gather (rowBytes n v) l) ≤ length buffer = omega (arith, size, h) in
+    record {
+      fitting = h;
+      size = splice-length place _ buffer inside;
+      before = λ i k. splice-before place _ buffer i 0 (omega (arith, h)) k;
+      within = λ j k. row-named n v (getD l j []) (λ r q.
+          ap (λ i. getD (splice place (gather (rowBytes n v) l) buffer) i 0) (omega arith)
+          ∙ splice-within place _ buffer (24 * j + r) 0 (omega (arith, h)) (omega (arith, size, k, q)) ∙ row-byte n v l few j r k q);
+      behind = λ i k. splice-after place _ buffer i 0 inside (omega (arith, size, k));
+    }
