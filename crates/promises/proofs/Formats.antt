@@ -1,15 +1,15 @@
 -- Records and rows in numbers are those of the definitions that the event call is decided by.
 use mathlib.Core.Path.{_≡_, refl, sym, ap, ap₂, _∙_}
-use mathlib.Core.Bool.{true, false, _&&_}
+use mathlib.Core.Bool.{true, _&&_}
 use mathlib.Core.List.{List, [], _∷_, _++_, List·Memᴰ, List·Memᴰ·head, List·Memᴰ·tail}
 use mathlib.Core.Logic.{_↔_}
 use Prim.Native.Nat.{ℕ, zero, suc, _+_, _-_, _*_, _/_, _%_, _≤_, _<_}
 use native.Mathlib.Omega.{arith}
 use borrow.Author.Tests.{eqb-true, eq-eqb, leb-true, le-leb, ltb-true, ltb-false}
-use lib.Dec.{eqb, leb, ltb}
+use lib.Dec.{eqb, ltb}
 use lib.ListN.{length, getD, drop, List·getD-append, List·getD-eq-default}
 use lib.Seq.{getD-append-add, getD-drop}
-use Rattle.laws.specs.Lists.{all, gather}
+use Rattle.laws.specs.Lists.{gather}
 use Rattle.laws.specs.Parts.{splice, pad}
 use Rattle.laws.proofs.Lists.{and-true-split, all-getD, all-indexed}
 use Rattle.laws.proofs.Parts.{splice-length, splice-before, splice-within, splice-after}
@@ -107,17 +107,26 @@ row-byte n v (σ ∷ l) few (suc j) r h k =
 -- from the bytes of one row to their names
 row-named : (n v : ℕ) (σ : Valuation) {s : Bytes} {p : ℕ} → ((r : ℕ) → r < 24 → getD s (p + r) 0 ≡ getD (rowOf n v σ) r 0) → RowAt s p n v σ
 row-named n v σ {s} {p} at = record {
-  number = record { lowest = byte 0 (omega arith) (omega arith); second = byte 1 (omega arith) (omega arith); third = byte 2 (omega arith) (omega arith); highest = byte 3 (omega arith) (omega arith) };
+  number = word 0 (omega arith) (omega arith) refl refl refl refl;
   variables = byte 4 (omega arith) (omega arith);
   zeros = (byte 5 (omega arith) (omega arith), byte 6 (omega arith) (omega arith), byte 7 (omega arith) (omega arith));
-  first = record { lowest = byte 8 (omega arith) (omega arith); second = byte 9 (omega arith) (omega arith); third = byte 10 (omega arith) (omega arith); highest = byte 11 (omega arith) (omega arith) };
-  second = record { lowest = byte 12 (omega arith) (omega arith); second = byte 13 (omega arith) (omega arith); third = byte 14 (omega arith) (omega arith); highest = byte 15 (omega arith) (omega arith) };
-  third = record { lowest = byte 16 (omega arith) (omega arith); second = byte 17 (omega arith) (omega arith); third = byte 18 (omega arith) (omega arith); highest = byte 19 (omega arith) (omega arith) };
-  fourth = record { lowest = byte 20 (omega arith) (omega arith); second = byte 21 (omega arith) (omega arith); third = byte 22 (omega arith) (omega arith); highest = byte 23 (omega arith) (omega arith) };
+  first = word 8 (omega arith) (omega arith) refl refl refl refl;
+  second = word 12 (omega arith) (omega arith) refl refl refl refl;
+  third = word 16 (omega arith) (omega arith) refl refl refl refl;
+  fourth = word 20 (omega arith) (omega arith) refl refl refl refl;
 }
   where
     byte : {i : ℕ} (r : ℕ) → i ≡ p + r → r < 24 → getD s i 0 ≡ getD (rowOf n v σ) r 0
     byte r e h = ap (λ k. getD s k 0) e ∙ at r h
+
+    word : {i : ℕ} (r : ℕ) {x : ℕ} → i ≡ p + r → r + 3 < 24 → getD (rowOf n v σ) r 0 ≡ x % 256 → getD (rowOf n v σ) (r + 1) 0 ≡ x / 256 % 256
+        → getD (rowOf n v σ) (r + 2) 0 ≡ x / 65536 % 256 → getD (rowOf n v σ) (r + 3) 0 ≡ x / 16777216 % 256 → WordAt s i x
+    word r e h a b c d = record {
+      lowest = byte r e (omega arith) ∙ a;
+      second = byte (r + 1) (omega arith) (omega arith) ∙ b;
+      third = byte (r + 2) (omega arith) (omega arith) ∙ c;
+      highest = byte (r + 3) (omega arith) h ∙ d;
+    }
 
 pub rows-read : (buffer : Bytes) (place n v : ℕ) (l : List Valuation) → Few l → place + 24 * length l ≤ length buffer
     → RowsIn buffer (splice place (gather (rowBytes n v) l) buffer) place n v l

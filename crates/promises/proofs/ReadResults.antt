@@ -11,14 +11,11 @@ use lib.Dec.{eqb, ltb}
 use lib.ListN.{length, length-map}
 use Rattle.laws.specs.Parts.{pad}
 use Rattle.pattern.specs.Regex.{Regex}
-use Rattle.meaning.specs.Meaning.{noSymbol}
 use Rattle.form.specs.Text as Text
 use Rattle.form.specs.Text.{Bytes, isBytes, SymbolLine, Declarations}
 use Rattle.form.specs.Form.{Form, allNames}
 use Rattle.form.specs.Lines.{declaredTable}
-use Rattle.table.specs.declared.Symbol.{Symbol}
 use Rattle.table.specs.Tables.{tableOf as heldTable, symbolOf}
-use Rattle.book.specs.declared.Book.{Book}
 use Rattle.book.specs.declared.Reading.{Reading}
 use Rattle.book.specs.declared.ReadingAnswer.{ReadingAnswer}
 use Rattle.book.specs.declared.ReadingAnswer.the-variants.{Accepted, TooLong, BadLine, AboveLimit, Redeclared}

@@ -153,7 +153,8 @@ module _ (text : Bytes) (d : Declarations) (q : Regex) (f : Form text d q) where
       crossed = λ xs ys a c p o i m n w v.
           let (x, y) = same xs a in
           let (z, u) = same ys c in
-          let (_, _, e, g) = crossed-words tmDeclared xs ys p (crossed-on tmDeclared x z (crossed text d q f (lentTo xs) (lentTo ys) y u) p (rw event-read o)) i m n w v in
+          let both = crossed-on tmDeclared x z (crossed text d q f (lentTo xs) (lentTo ys) y u) p (rw event-read o) in
+          let (_, _, e, g) = crossed-words tmDeclared xs ys p both i m n w v in
           (rows-kept xs a i m w, rows-kept ys c (p .to i) n v, alike e g);
     }
 

@@ -152,7 +152,8 @@ module _ {M : Type 1} (𝓤 : URA M) (H : Heap 𝓤) (A : Atoms 𝓤) (at-mem : 
     abbrev left : List ℕ → Taken → Val → List (Item 𝓤)
     left zs r v = ‵ (R.the-row .own r (v ∷ [])) ∷ ‵ (flft κ₀ q₀) ∷ ‵ (flft κ₁ q₁) ∷ ‵ (finally u8 (rw .name) zs) ∷ []
 
-    exits : (r : Taken) (zs : List ℕ) (v : Val) → r ≡ out → zs ≡ after → isBytes (by′ .now) ≡ true → length zs ≡ length (rw .now) → ent 𝓤 (⋆ 𝓤 H A (left zs r v)) (Post v)
+    exits : (r : Taken) (zs : List ℕ) (v : Val) → r ≡ out → zs ≡ after → isBytes (by′ .now) ≡ true → length zs ≡ length (rw .now)
+        → ent 𝓤 (⋆ 𝓤 H A (left zs r v)) (Post v)
     exits r zs v er ez eb l =
         qed W (left zs r v) ∵
         suffices ! _ (ends-at 𝓤 H A event.ended stayed clauses W bound v r
