@@ -58,13 +58,13 @@ tally-decided t a f r u v p q =
 abbrev decode : ℕ → EventAnswer
 decode n = cond (eqb n 0) Accepted (cond (eqb n 9) Unsound (cond (eqb n 10) OutOfForm (cond (eqb n 11) TooMany (cond (eqb n 12) NoRoom NoSpace))))
 
-decoded : (a : EventAnswer) → decode (numberOf a) ≡ a
-decoded Accepted = refl
-decoded Unsound = refl
-decoded OutOfForm = refl
-decoded TooMany = refl
-decoded NoRoom = refl
-decoded NoSpace = refl
+told-again : (a : EventAnswer) → decode (numberOf a) ≡ a
+told-again Accepted = refl
+told-again Unsound = refl
+told-again OutOfForm = refl
+told-again TooMany = refl
+told-again NoRoom = refl
+told-again NoSpace = refl
 
 module _ (b : Book) (s : State) (bytes buffer : Bytes) (place : ℕ) where
   -- the first check that fails has one number
@@ -117,4 +117,4 @@ module _ (b : Book) (s : State) (bytes buffer : Bytes) (place : ℕ) where
 
         parts : x .rows ≡ y .rows → x .state ≡ y .state → x .tally ≡ y .tally → x ≡ y
         parts count state tally =
-            same-parts x y (sym (decoded (x .answer)) ∙ ap decode n ∙ decoded (y .answer)) count (p .book ∙ sym (q .book)) state tally
+            same-parts x y (sym (told-again (x .answer)) ∙ ap decode n ∙ told-again (y .answer)) count (p .book ∙ sym (q .book)) state tally
