@@ -115,11 +115,11 @@ unfolding soundSymbol
 few-parameters v l h = all-of _ l λ y m. simp and-eq-true-iff at (all-at (soundSymbol v) h m) .0 .1
 
 -- an argument place and a `sym` line as the book holds them, written out
-abbrev coded : Events.Parameter → HeldParameter.Parameter
+abbrev pub coded : Events.Parameter → HeldParameter.Parameter
 coded Events.Parameter.ignored = record { tag = 0; number = 0 }
 coded (Events.Parameter.names v) = record { tag = 1; number = v }
 
-abbrev lined : SymbolLine → HeldSymbol.Symbol
+abbrev pub lined : SymbolLine → HeldSymbol.Symbol
 lined l = record { kind = l .kind; count = length (l .parameters); parameters = pad 4 (record { tag = 0; number = 0 }) (map coded (l .parameters)) }
 
 parameters-held : (ps : List Events.Parameter) → map parameterOf ps ≡ map coded ps

@@ -28,7 +28,7 @@ use Rattle.least.proofs.Refused.{refused}
 -- word number i, from 0, of line k, from 0, begins at p, none of these lines is `match …`, and no fault stands before p
 module _ (s : Bytes) (bytes : isBytes s ≡ true) (short : length s ≤ 4096) {k i p : ℕ} (w : Word s k i p) (h : Header s k) (clean : Clean s p) where
   -- what `read` hands back is n at p
-  abbrev Answers : ℕ → Type 0
+  abbrev pub Answers : ℕ → Type 0
   Answers n = (numberOf (reading s .answer) ≡ n) × (placeOf (reading s .answer) ≡ p)
 
   -- a fault of the word, and none of its faults has a smaller number
@@ -123,7 +123,7 @@ sign-number l a (misplaced _ _) = omega arith
 -- a token begins at q on the pattern's line, which is line k with `match` and a space at p, behind a `sym` line, and no fault stands before it
 module _ (s : Bytes) (bytes : isBytes s ≡ true) (short : length s ≤ 4096) {k p q : ℕ} (line : PatternLine s k p) (later : k ≡ 1 → ⊥)
     (gap : at s (p + 5) ≡ space) (t : TokenAt s k p q) (clean : Clean s q) where
-  abbrev TokenAnswers : ℕ → Type 0
+  abbrev pub TokenAnswers : ℕ → Type 0
   TokenAnswers n = (numberOf (reading s .answer) ≡ n) × (placeOf (reading s .answer) ≡ q)
 
   token-answers : (n : ℕ) → n ≤ 6 → TokenFault s k p q n → ((m : ℕ) → TokenFault s k p q m → n ≤ m) → TokenAnswers n
@@ -154,7 +154,7 @@ module _ (s : Bytes) (bytes : isBytes s ≡ true) (short : length s ≤ 4096) {k
 
 -- places of spaces and of what is missing, where no fault stands before them
 module _ (s : Bytes) (bytes : isBytes s ≡ true) (short : length s ≤ 4096) {q : ℕ} (clean : Clean s q) where
-  abbrev PlaceAnswers : ℕ → Type 0
+  abbrev pub PlaceAnswers : ℕ → Type 0
   PlaceAnswers n = (numberOf (reading s .answer) ≡ n) × (placeOf (reading s .answer) ≡ q)
 
   at-two : Fault s q 2 → PlaceAnswers 2

@@ -128,7 +128,7 @@ row-named n v σ {s} {p} at = record {
       highest = byte (r + 3) (omega arith) h ∙ d;
     }
 
-pub rows-read : (buffer : Bytes) (place n v : ℕ) (l : List Valuation) → Few l → place + 24 * length l ≤ length buffer
+pub rows-read : (buffer : Bytes) (place n v : ℕ) (l : List Valuation) → ((σ : Valuation) → List·Memᴰ σ l → length σ ≤ 4) → place + 24 * length l ≤ length buffer
     → RowsIn buffer (splice place (gather (rowBytes n v) l) buffer) place n v l
 rows-read buffer place n v l few h =
     let size : length (gather (rowBytes n v) l) ≡ 24 * length l = omega (arith, gather-length (rowBytes n v) 24 l (λ σ m. row-length n v σ (few σ m))) in

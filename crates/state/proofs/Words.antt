@@ -30,7 +30,7 @@ pub slot-read : (a n : ℕ) (xs : List ℕ)
 unfolding viewSlot
 slot-read a n xs = (refl, refl)
 
-abbrev vacant : List Slot
+abbrev pub vacant : List Slot
 vacant = replicate 4 (record { bound = false; value = 0; count = 0; excluded = replicate 6 0 })
 
 -- "Held disjuncts stand by position, …"; "Places of disjuncts that end are used again"
