@@ -33,6 +33,15 @@ event-told a = record {
   place = refl;
 }
 
+-- and no others
+pub event-told-decided : (a : EventAnswer) (n m p q : ℕ) → EventTold a n p → EventTold a m q → (n ≡ m) × (p ≡ q)
+event-told-decided Accepted n m p q x y = (x .accepted refl ∙ sym (y .accepted refl), x .place ∙ sym (y .place))
+event-told-decided Unsound n m p q x y = (x .unsound refl ∙ sym (y .unsound refl), x .place ∙ sym (y .place))
+event-told-decided OutOfForm n m p q x y = (x .outOfForm refl ∙ sym (y .outOfForm refl), x .place ∙ sym (y .place))
+event-told-decided TooMany n m p q x y = (x .tooMany refl ∙ sym (y .tooMany refl), x .place ∙ sym (y .place))
+event-told-decided NoRoom n m p q x y = (x .noRoom refl ∙ sym (y .noRoom refl), x .place ∙ sym (y .place))
+event-told-decided NoSpace n m p q x y = (x .noSpace refl ∙ sym (y .noSpace refl), x .place ∙ sym (y .place))
+
 -- a counter
 rises : (x n : ℕ) {y : ℕ} → y ≡ capped x n → Risen x n y
 rises x n e = record { below = λ h. e ∙ capped-more x n h; above = λ h. e ∙ capped-full x n (omega (arith, h)) }

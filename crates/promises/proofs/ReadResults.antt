@@ -42,6 +42,24 @@ reading-told a = record {
   unbound = λ k e. (ap numberOf e, ap placeOf e);
 }
 
+-- and no others
+pub reading-told-decided : (a : ReadingAnswer) (n m p q : ℕ) → ReadingTold a n p → ReadingTold a m q → (n ≡ m) × (p ≡ q)
+reading-told-decided a n m p q x y = go a x y
+  where
+    both : {i j k l : ℕ} → (i ≡ k) × (j ≡ l) → {g h : ℕ} → (g ≡ k) × (h ≡ l) → (i ≡ g) × (j ≡ h)
+    both (c, d) (e, f) = (c ∙ sym e, d ∙ sym f)
+
+    go : (a : ReadingAnswer) → ReadingTold a n p → ReadingTold a m q → (n ≡ m) × (p ≡ q)
+    go Accepted x y = both (x .accepted refl) (y .accepted refl)
+    go TooLong x y = both (x .tooLong refl) (y .tooLong refl)
+    go (BadLine k) x y = both (x .badLine k refl) (y .badLine k refl)
+    go (AboveLimit k) x y = both (x .aboveLimit k refl) (y .aboveLimit k refl)
+    go (Redeclared k) x y = both (x .redeclared k refl) (y .redeclared k refl)
+    go (Undeclared k) x y = both (x .undeclared k refl) (y .undeclared k refl)
+    go (BadPattern k) x y = both (x .badPattern k refl) (y .badPattern k refl)
+    go (EmptyWord k) x y = both (x .emptyWord k refl) (y .emptyWord k refl)
+    go (Unbound k) x y = both (x .unbound k refl) (y .unbound k refl)
+
 -- the lines of an accepted text, as its book holds them
 lines-held : (ls : List SymbolLine) → map symbolOf (map Text.symbolOf ls) ≡ map lineHeld ls
 unfolding symbolOf
