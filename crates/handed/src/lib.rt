@@ -122,6 +122,19 @@ pub fn count(tally: Tally, accepted: u64, refused: u64, rows: u64) -> Tally
     lent_count(tally, accepted, refused, rows)
 }
 
+// `Tally::added` and `Tally::none`.
+pub fn added(tally: Tally, accepted: u64, refused: u64, rows: u64) -> Tally
+    ensures { λ r. ⌜ TallyRises tally accepted refused rows r ⌝ }
+{
+    tally.added(accepted, refused, rows)
+}
+
+pub fn none() -> Tally
+    ensures { λ r. ⌜ (r .accepted ≡ 0) × (r .refused ≡ 0) × (r .rows ≡ 0) ⌝ }
+{
+    Tally::none()
+}
+
 // An answer's number and place.
 pub struct Told {
     pub number: usize,
