@@ -1,18 +1,23 @@
--- The words beside `reasons`, `clean-words`, `name-form-words`, `spot-words` and the sentences of Judged (crate least), each with its text.
+-- What `refused` says, whole; and the words beside `reasons`, `clean-words`, `name-form-words`, `spot-words` and the sentences of Judged (crate least), each with its text.
 use mathlib.Core.Path.{_≡_, refl}
 use mathlib.Core.Bool.{true, false}
-use mathlib.Core.List.{[], _∷_, _++_, List·Memᴰ}
-use mathlib.Core.Logic.{_⊎_}
+use mathlib.Core.List.{List, [], _∷_, _++_, List·Memᴰ}
+use mathlib.Core.Logic.{_↔_, _⊎_}
 use Prim.Native.Nat.{ℕ, _+_, _≤_, _<_}
 use lib.ListN.{length}
-use Rattle.laws.specs.Lists.{all}
-use Rattle.form.specs.Text.{Bytes, isBytes, ascii, decimal, space, isLower, isNameByte}
-use Rattle.form.specs.Scan.{at, spacesEnd}
+use Rattle.laws.specs.Lists.{any, all}
+use Rattle.pattern.specs.Regex.{Regex, In}
+use Rattle.form.specs.Text.{Bytes, isBytes, ascii, decimal, space, isLower, isNameByte, Declarations, header}
+use Rattle.form.specs.Form.{Shape, binds}
+use Rattle.form.specs.Scan.{at, spacesEnd, run, isSpace}
+use Rattle.parsing.proofs.Accepted.{number-range}
 use Rattle.book.specs.Answers.{numberOf, placeOf}
 use Rattle.book.specs.Books.{reading}
+use Rattle.book.proofs.Bench.{answer-number}
 use Rattle.fault.specs.Places.{On, Ends, spotAt, Word, wordAt, NoMatch, Header, PatternLine, TokenAt, before, nameAt, tokenAt}
 use Rattle.fault.specs.Places.{occurrences, signs, Pattern, Begins}
-use Rattle.fault.specs.Fault.{isNameForm, VariableNamed, SymbolNamed, Fault}
+use Rattle.fault.specs.Fault.{isNameForm, VariableNamed, SymbolNamed, Fault, Least, NoFault}
+use Rattle.fault.specs.Rules.{AdmitsEmpty, LeavesUnbound, Rules}
 use Rattle.least.proofs.Sites.{Clean}
 use Rattle.least.proofs.Located.{Goes}
 use Rattle.least.proofs.Right.{NameFormed}
@@ -32,6 +37,39 @@ pub formed-said : (w : Bytes)
     ≡ ((b : ℕ) × (l : Bytes) × (w ≡ b ∷ l) × (97 ≤ b) × (b ≤ 122)
     × ((c : ℕ) → List·Memᴰ c l → ((97 ≤ c) × (c ≤ 122)) ⊎ ((48 ≤ c) × (c ≤ 57))))
 formed-said w = refl
+
+-- "1 first; then the earliest place; at one place the smaller number; 7, then 8, after everything": what `refused` says, whole
+pub least-words : (s : Bytes) (p n : ℕ) → Least s p n ↔ (Fault s p n × ((q m : ℕ) → Fault s q m → (p < q) ⊎ ((p ≡ q) × (n ≤ m))))
+least-words s p n = (λ l. (l .fault, l .least), λ (f, l). record { fault = f; least = l })
+
+pub faultless-said : (s : Bytes) → NoFault s ≡ ((p n : ℕ) → Fault s p n → ⊥)
+faultless-said s = refl
+
+pub admits-said : (s : Bytes) → AdmitsEmpty s ≡ ((d : Declarations) × (r : Regex) × Shape s d r × In r [])
+admits-said s = refl
+
+pub unbound-said : (s : Bytes)
+    → LeavesUnbound s
+    ≡ ((d : Declarations) × (r : Regex) × Shape s d r
+    × ((v : ℕ) × (w : List ℕ) × (v < length (d .variables)) × In r w × (any (binds d v) w ≡ false)))
+unbound-said s = refl
+
+pub rules-words : (s : Bytes) (p n : ℕ)
+    → Rules s p n
+    ↔ ((((n ≡ 1) × (p ≡ 4096)) ↔ (4096 < length s))
+    × ((m q : ℕ) → 2 ≤ m → m ≤ 6 → ((n ≡ m) × (p ≡ q)) ↔ ((length s ≤ 4096) × Least s q m))
+    × ((n ≡ 7) ↔ ((length s ≤ 4096) × NoFault s × AdmitsEmpty s))
+    × ((n ≡ 8) ↔ ((length s ≤ 4096) × NoFault s × (AdmitsEmpty s → ⊥) × LeavesUnbound s))
+    × ((d : Declarations) (r : Regex) (f : Shape s d r) → (n ≡ 7) ⊎ (n ≡ 8) → p ≡ length (header d) + 6 + run isSpace (f .written))
+    × (((n ≡ 0) × (p ≡ 0)) ↔ ((length s ≤ 4096) × NoFault s × (AdmitsEmpty s → ⊥) × (LeavesUnbound s → ⊥))))
+rules-words s p n = (
+  λ r. (r .long, r .fault, r .seven, r .eight, r .first, r .none),
+  λ (a, b, c, d, e, f). record { long = a; fault = b; seven = c; eight = d; first = e; none = f },
+)
+
+-- no other number than 0 to 8
+pub reading-range : (s : Bytes) → numberOf (reading s .answer) ≤ 8
+reading-range s = rw (answer-number s) (number-range s)
 
 -- what `read` hands back at a word, at a token, at a space or at what is missing
 module _ (s : Bytes) (bytes : isBytes s ≡ true) (short : length s ≤ 4096) where
