@@ -16,7 +16,7 @@ use Rattle.form.specs.Tokens.{Token, name, sign}
 use Rattle.fault.specs.Places.{Spot}
 use Rattle.tally.specs.declared.Tally.{Tally}
 use Rattle.book.specs.declared.ReadingAnswer.{ReadingAnswer}
-use Rattle.book.specs.declared.ReadingAnswer.the-variants as Read
+use Rattle.book.specs.declared.ReadingAnswer.the-variants as TextAnswer
 use Rattle.calls.specs.declared.EventAnswer.{EventAnswer}
 use Rattle.calls.specs.declared.EventAnswer.the-variants as Answer
 use Rattle.calls.specs.declared.Taken.{Taken}
@@ -63,17 +63,17 @@ event-answer-whole Answer.NoRoom = inr (inr (inr (inr (inl refl))))
 event-answer-whole Answer.NoSpace = inr (inr (inr (inr (inr refl))))
 
 pub reading-answer-whole : (a : ReadingAnswer)
-    → (a ≡ Read.Accepted) ⊎ ((a ≡ Read.TooLong) ⊎ ((p : ℕ) × ((a ≡ Read.BadLine p) ⊎ ((a ≡ Read.AboveLimit p) ⊎ ((a ≡ Read.Redeclared p)
-    ⊎ ((a ≡ Read.Undeclared p) ⊎ ((a ≡ Read.BadPattern p) ⊎ ((a ≡ Read.EmptyWord p) ⊎ (a ≡ Read.Unbound p)))))))))
-reading-answer-whole Read.Accepted = inl refl
-reading-answer-whole Read.TooLong = inr (inl refl)
-reading-answer-whole (Read.BadLine p) = inr (inr (p, inl refl))
-reading-answer-whole (Read.AboveLimit p) = inr (inr (p, inr (inl refl)))
-reading-answer-whole (Read.Redeclared p) = inr (inr (p, inr (inr (inl refl))))
-reading-answer-whole (Read.Undeclared p) = inr (inr (p, inr (inr (inr (inl refl)))))
-reading-answer-whole (Read.BadPattern p) = inr (inr (p, inr (inr (inr (inr (inl refl))))))
-reading-answer-whole (Read.EmptyWord p) = inr (inr (p, inr (inr (inr (inr (inr (inl refl)))))))
-reading-answer-whole (Read.Unbound p) = inr (inr (p, inr (inr (inr (inr (inr (inr refl)))))))
+    → (a ≡ TextAnswer.Accepted) ⊎ ((a ≡ TextAnswer.TooLong) ⊎ ((p : ℕ) × ((a ≡ TextAnswer.BadLine p) ⊎ ((a ≡ TextAnswer.AboveLimit p) ⊎ ((a ≡ TextAnswer.Redeclared p)
+    ⊎ ((a ≡ TextAnswer.Undeclared p) ⊎ ((a ≡ TextAnswer.BadPattern p) ⊎ ((a ≡ TextAnswer.EmptyWord p) ⊎ (a ≡ TextAnswer.Unbound p)))))))))
+reading-answer-whole TextAnswer.Accepted = inl refl
+reading-answer-whole TextAnswer.TooLong = inr (inl refl)
+reading-answer-whole (TextAnswer.BadLine p) = inr (inr (p, inl refl))
+reading-answer-whole (TextAnswer.AboveLimit p) = inr (inr (p, inr (inl refl)))
+reading-answer-whole (TextAnswer.Redeclared p) = inr (inr (p, inr (inr (inl refl))))
+reading-answer-whole (TextAnswer.Undeclared p) = inr (inr (p, inr (inr (inr (inl refl)))))
+reading-answer-whole (TextAnswer.BadPattern p) = inr (inr (p, inr (inr (inr (inr (inl refl))))))
+reading-answer-whole (TextAnswer.EmptyWord p) = inr (inr (p, inr (inr (inr (inr (inr (inl refl)))))))
+reading-answer-whole (TextAnswer.Unbound p) = inr (inr (p, inr (inr (inr (inr (inr (inr refl)))))))
 
 -- parts, any of them, and no part more
 pub symbol-whole : (y : Symbol) (k : ℕ) (ps : List Parameter)
