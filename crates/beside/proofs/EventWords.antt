@@ -4,9 +4,10 @@ use mathlib.Core.Path.{_≡_, refl}
 use mathlib.Core.Bool.{true, false}
 use mathlib.Core.List.{List, [], map, List·Memᴰ}
 use mathlib.Core.Logic.{_↔_, _⊎_}
-use Prim.Native.Nat.{ℕ, _≤_, _<_}
+use Prim.Native.Nat.{ℕ, suc, _≤_, _<_}
 use lib.ListN.{length, take, replicate}
 use Rattle.laws.specs.Order.{ascending}
+use Rattle.pattern.specs.Regex.{Regex}
 use Rattle.meaning.specs.Events.{Event, Valuation, Demand, never, demands, constraintOf}
 use Rattle.meaning.specs.Meaning.{Tracematch, Row}
 use Rattle.meaning.specs.Book.{bookOf, positions}
@@ -16,9 +17,15 @@ use Rattle.meaning.specs.Room.{Broken}
 use Rattle.meaning.specs.Rows.{compareValuations}
 use Rattle.automaton.proofs.Entries.{Admitted}
 use Rattle.automaton.proofs.Stems.{asked}
+use Rattle.form.specs.Text.{Bytes, Declarations, tracematchOf}
+use Rattle.form.specs.Form.{Form}
 use Rattle.record.specs.Records.{isRecord, eventIn}
+use Rattle.book.specs.Books.{reading}
 use Rattle.state.proofs.Words.{vacant}
-use Rattle.calls.specs.Runs.{Lent, heldAfter, TooShort}
+use Rattle.calls.specs.Answers.{numberOf}
+use Rattle.calls.specs.Runs.{Lent, Call, Made, allBytes, runOf, acceptedIn, recordsOf, traceOf, Within, Delivered, heldAfter, TooShort, Judged}
+use Rattle.calls.specs.Runs.{Partners, InOrder, Crossed}
+use Rattle.calls.specs.Demands.{Demands}
 use Rattle.demands.proofs.Checks.{through, FourRules}
 use Rattle.demands.proofs.RunWords.{Exactly, Usable, Crowded, Short, Answers}
 
@@ -62,3 +69,20 @@ pub rules-said : (b : Plain.Book) (held : List Held) (e : Event)
     × ((D : Disjunct) × List·Memᴰ D (through b held e p k) × ((x : Entry) × List·Memᴰ x D × (6 < length (exclusions x)))))
     ⊎ (128 < length (newHeld b held e)))))
 rules-said b held e = refl
+
+-- all that is promised of a text with answer 0 (theorem `demands`)
+pub demands-said : (text : Bytes) (d : Declarations) (r : Regex)
+    → Demands text d r
+    ↔ (Form text d r
+    × ((cs : List Call) → allBytes cs ≡ true → (i : ℕ) (m : Made) → Within (acceptedIn (runOf (reading text .book) cs)) i m
+    → Delivered (tracematchOf d r) (traceOf (runOf (reading text .book) cs)) (suc i) m)
+    × ((cs : List Call) → allBytes cs ≡ true → (k : ℕ) (m : Made) → Within (runOf (reading text .book) cs) k m
+    → Judged (tracematchOf d r) (traceOf (take k (runOf (reading text .book) cs))) (m .lent) (numberOf (m .taken .answer)))
+    × ((xs ys : List Call) → allBytes xs ≡ true → allBytes ys ≡ true
+    → (p : Partners (recordsOf (runOf (reading text .book) xs)) (recordsOf (runOf (reading text .book) ys)))
+    → InOrder (tracematchOf d r) (recordsOf (runOf (reading text .book) xs)) (recordsOf (runOf (reading text .book) ys)) p
+    → Crossed (tracematchOf d r) (runOf (reading text .book) xs) (runOf (reading text .book) ys) p))
+demands-said text d r = (
+  λ x. (x .form, x .rows, x .answers, x .crossed),
+  λ (a, b, c, e). record { form = a; rows = b; answers = c; crossed = e },
+)

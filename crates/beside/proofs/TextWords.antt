@@ -1,4 +1,5 @@
--- The words beside `usual`, `words` (crate pattern), `from-left` (form), `name-words` and its like (parsing) and `held` (book), each with its text.
+-- The words beside `usual`, `words` (crate pattern), `from-left` (form), `name-words` and its like (parsing), `held` (book) and the sentences of Judged
+-- (least), each with its text.
 use mathlib.Core.Path.{_≡_, refl}
 use mathlib.Core.Bool.{true, not}
 use mathlib.Core.List.{List, [], _∷_, _++_, map, List·Memᴰ}
@@ -12,11 +13,14 @@ use Rattle.pattern.specs.Positions.{size}
 use Rattle.pattern.proofs.Usual.{marked}
 use Rattle.pattern.proofs.Textbook.{Times}
 use Rattle.meaning.specs.Events.{ignored, names}
-use Rattle.form.specs.Text.{Bytes, isNameByte, ascii, decimal, SymbolLine}
+use Rattle.form.specs.Text.{Bytes, space, isNameByte, ascii, decimal, SymbolLine}
 use Rattle.form.specs.Tokens.{Token, name, sign}
 use Rattle.form.proofs.Grammar.{namesIn}
 use Rattle.parsing.proofs.FormWords.{Named, Lined, argumentWritten, lineWritten, nameEnds, argumentsOf, placed}
 use Rattle.book.proofs.Bench.{coded, lined}
+
+pub space-said : space ≡ 32
+space-said = refl
 
 pub marked-said : (r s : Regex) (a k : ℕ)
     → (marked (lit a) k ≡ lit k) × (marked (cat r s) k ≡ cat (marked r k) (marked s (k + size r)))
