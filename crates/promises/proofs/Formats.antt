@@ -1,21 +1,22 @@
 -- Records and rows in numbers are those of the definitions that the event call is decided by.
-use mathlib.Core.Path.{_≡_, refl, sym, ap, ap₂, _∙_}
-use mathlib.Core.Bool.{true, _&&_}
+use mathlib.Core.Path.{_≡_, refl, sym, ap, _∙_}
+use mathlib.Core.Bool.{true}
 use mathlib.Core.List.{List, [], _∷_, _++_, List·Memᴰ, List·Memᴰ·head, List·Memᴰ·tail}
 use mathlib.Core.Logic.{_↔_}
 use Prim.Native.Nat.{ℕ, zero, suc, _+_, _-_, _*_, _/_, _%_, _≤_, _<_}
 use native.Mathlib.Omega.{arith}
-use borrow.Author.Tests.{eqb-true, eq-eqb, leb-true, le-leb, ltb-true, ltb-false}
+use borrow.Author.Tests.{eqb-true, eq-eqb, ltb-true, ltb-false}
 use lib.Dec.{eqb, ltb}
 use lib.ListN.{length, getD, drop, List·getD-append, List·getD-eq-default}
 use lib.Seq.{getD-append-add, getD-drop}
 use Rattle.laws.specs.Lists.{gather}
 use Rattle.laws.specs.Parts.{splice, pad}
-use Rattle.laws.proofs.Lists.{and-true-split, all-getD, all-indexed}
+use Rattle.laws.proofs.Lists.{all-getD, all-indexed}
 use Rattle.laws.proofs.Parts.{splice-length, splice-before, splice-within, splice-after}
 use Rattle.meaning.specs.Events.{Valuation}
 use Rattle.form.specs.Text.{Bytes}
 use Rattle.record.specs.Records.{wordAt, argumentsIn, isRecord, eventIn}
+use Rattle.record.proofs.Records.{record-form, form-record}
 use Rattle.row.specs.RowBytes.{wordBytes, rowBytes}
 use Rattle.row.proofs.RowBytes.{gather-length, row-length}
 use Rattle.promises.proofs.Whether.{whether}
@@ -39,24 +40,19 @@ unfolding argumentsIn
 words-length s = refl
 
 pub record-read : (s : Bytes) → (isRecord s ≡ true) ↔ InRecord s
-unfolding isRecord
 record-read s = (forth, back)
   where
     forth : isRecord s ≡ true → InRecord s
     forth h =
-        let (x, words) = and-true-split _ _ h in
-        let (y, third) = and-true-split _ _ x in
-        let (z, second) = and-true-split _ _ y in
-        let (w, count) = and-true-split _ _ z in
-        let (size, kind) = and-true-split (eqb (length s) 20) _ w in
+        let f = record-form s h in
         record {
-          size = eqb-true (length s) 20 size;
-          kind = leb-true 1 (getD s 0 0) kind;
-          count = leb-true (getD s 1 0) 4 count;
-          zeros = (eqb-true (getD s 2 0) 0 second, eqb-true (getD s 3 0) 0 third);
+          size = f .size;
+          kind = f .kind;
+          count = f .few;
+          zeros = (f .third, f .fourth);
           beyond = λ k p q.
               let e : getD s 1 0 + (k - getD s 1 0) ≡ k = omega (arith, p) in
-              let zero-there = eqb-true 0 _ (all-getD (eqb 0) (drop (getD s 1 0) (argumentsIn s)) (k - getD s 1 0) 0 refl words) in
+              let zero-there = eqb-true 0 _ (all-getD (eqb 0) (drop (getD s 1 0) (argumentsIn s)) (k - getD s 1 0) 0 refl (f .rest)) in
               sym (words-read s k q) ∙ ap (λ i. getD (argumentsIn s) i 0) (sym e)
               ∙ sym (getD-drop (getD s 1 0) (argumentsIn s) (k - getD s 1 0) 0) ∙ sym zero-there;
         }
@@ -68,9 +64,14 @@ record-read s = (forth, back)
         ∙ whether (ltb (getD s 1 0 + i) 4)
         (λ h. let l = ltb-true _ 4 h in words-read s _ l ∙ r .beyond _ (omega arith) l)
         (λ h. List·getD-eq-default (argumentsIn s) 0 (omega (arith, words-length s, ltb-false (getD s 1 0 + i) 4 h))) in
-        let words = all-indexed (eqb 0) 0 (drop (getD s 1 0) (argumentsIn s)) (λ i. eq-eqb 0 _ (sym (there i))) in
-        ap₂ _&&_ (ap₂ _&&_ (ap₂ _&&_ (ap₂ _&&_ (ap₂ _&&_ (eq-eqb (length s) 20 (r .size)) (le-leb 1 _ (r .kind))) (le-leb _ 4 (r .count)))
-        (eq-eqb _ 0 (r .zeros .0))) (eq-eqb _ 0 (r .zeros .1))) words
+        form-record s (record {
+          size = r .size;
+          kind = r .kind;
+          few = r .count;
+          third = r .zeros .0;
+          fourth = r .zeros .1;
+          rest = all-indexed (eqb 0) 0 (drop (getD s 1 0) (argumentsIn s)) (λ i. eq-eqb 0 _ (sym (there i)));
+        })
 
 -- the bytes of a row, every one
 abbrev wordThen : ℕ → List ℕ → List ℕ
