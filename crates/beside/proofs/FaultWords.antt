@@ -1,4 +1,5 @@
--- What `refused` says, whole; and the words beside `reasons`, `clean-words`, `name-form-words`, `spot-words` and the sentences of Judged (crate least), each with its text.
+-- What `refused` says, whole; and the words beside `reasons`, `clean-words`, `name-form-words`, `spot-words` and the sentences of Judged
+-- (crate least), each with its text.
 use mathlib.Core.Path.{_≡_, refl}
 use mathlib.Core.Bool.{true, false}
 use mathlib.Core.List.{List, [], _∷_, _++_, List·Memᴰ}

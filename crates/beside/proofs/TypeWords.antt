@@ -63,8 +63,8 @@ event-answer-whole Answer.NoRoom = inr (inr (inr (inr (inl refl))))
 event-answer-whole Answer.NoSpace = inr (inr (inr (inr (inr refl))))
 
 pub reading-answer-whole : (a : ReadingAnswer)
-    → (a ≡ TextAnswer.Accepted) ⊎ ((a ≡ TextAnswer.TooLong) ⊎ ((p : ℕ) × ((a ≡ TextAnswer.BadLine p) ⊎ ((a ≡ TextAnswer.AboveLimit p) ⊎ ((a ≡ TextAnswer.Redeclared p)
-    ⊎ ((a ≡ TextAnswer.Undeclared p) ⊎ ((a ≡ TextAnswer.BadPattern p) ⊎ ((a ≡ TextAnswer.EmptyWord p) ⊎ (a ≡ TextAnswer.Unbound p)))))))))
+    → (a ≡ TextAnswer.Accepted) ⊎ ((a ≡ TextAnswer.TooLong) ⊎ ((p : ℕ) × ((a ≡ TextAnswer.BadLine p) ⊎ ((a ≡ TextAnswer.AboveLimit p)
+    ⊎ ((a ≡ TextAnswer.Redeclared p) ⊎ ((a ≡ TextAnswer.Undeclared p) ⊎ ((a ≡ TextAnswer.BadPattern p) ⊎ ((a ≡ TextAnswer.EmptyWord p) ⊎ (a ≡ TextAnswer.Unbound p)))))))))
 reading-answer-whole TextAnswer.Accepted = inl refl
 reading-answer-whole TextAnswer.TooLong = inr (inl refl)
 reading-answer-whole (TextAnswer.BadLine p) = inr (inr (p, inl refl))
