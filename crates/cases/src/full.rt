@@ -88,7 +88,7 @@ fn loads(book: Book, r: Run) -> Run {
 }
 
 pub fn filled(book: Book, score: Score) -> Score {
-    let state = watch::fresh();
+    let state = handed::fresh();
     let mut r = loads(
         book,
         Run {

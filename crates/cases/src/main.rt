@@ -67,7 +67,7 @@ fn counters(t: Tally) {
 
 // A line for each event from one number up to another: answer, rows, and the tally.
 fn events(book: Book, from: usize, to: usize, counted: Tally) {
-    let mut state = watch::fresh();
+    let mut state = handed::fresh();
     let mut tally = counted;
     let mut i = from;
     while i < to {

@@ -1,2 +1,3 @@
--- The theorem about the starred roasts.
+-- The theorem about the starred roasts, and its words.
 pub mod Starred
+pub mod Words

@@ -1,18 +1,51 @@
--- What `results` and `rows-read` give, with its text, so that none of it can get weaker with no call moving.
-use mathlib.Core.Path.{_≡_}
-use mathlib.Core.List.{List, []}
+-- What `results` and `rows-read` give, and what they ask, with its text, so that none of it can get weaker with no call moving; and the fresh state
+-- that `results` begins with and that `handed::fresh` gives, every number of it.
+use mathlib.Core.Path.{_≡_, refl}
+use mathlib.Core.Bool.{false}
+use mathlib.Core.List.{List, [], _∷_, map}
 use mathlib.Core.Logic.{_↔_}
 use Prim.Native.Nat.{ℕ, suc, _+_, _*_, _/_, _%_, _≤_, _<_}
-use lib.ListN.{length, getD, take}
+use lib.ListN.{length, getD, take, replicate}
 use Rattle.meaning.specs.Events.{Event, Valuation}
 use Rattle.meaning.specs.Meaning.{Tracematch}
 use Rattle.meaning.specs.Runs.{Listed, Ordered}
 use Rattle.form.specs.Text.{Bytes}
 use Rattle.book.specs.declared.Book.{Book}
+use Rattle.state.specs.declared.State.{State}
 use Rattle.calls.specs.Answers.{numberOf}
+use Rattle.calls.specs.Calls.{freshState}
 use Rattle.calls.specs.Runs.{Made, acceptedIn, recordsOf, Within, Judged, Partners}
+use Rattle.demands.proofs.Checks.{fresh-state}
 use Rattle.promises.specs.Formats.{InRecord, eventOfBytes, WordAt, RowAt, RowsIn}
-use Rattle.promises.specs.EventResults.{stateOfNothing, TallyRises, Series, traceIn, RowsKept, RowsAlike, ResultsKeep}
+use Rattle.promises.specs.EventResults.{stateOfNothing, TallyRises, EventGives, Series, noCall, called, traceIn, RowsKept, RowsAlike, ResultsKeep}
+
+-- "A fresh state has all 128 disjunct places free and event number 0."
+pub nothing-said : stateOfNothing
+    ≡ record {
+      number = 0;
+      count = 0;
+      positions = replicate 128 0;
+      pool = replicate 128 (record { vars = replicate 4 (record { bound = false; value = 0; count = 0; excluded = replicate 6 0 }) });
+    }
+nothing-said = refl
+
+-- the state that the contract of `fresh` names is that one
+pub fresh-given : freshState ≡ stateOfNothing
+fresh-given = fresh-state
+
+-- "Each call gets the state that the call before it returned or left"
+pub series-said : (b : Book) (s : State) (m : Made) (ms : List Made)
+    → Series b s []
+    × (Series b s (m ∷ ms)
+    ↔ (EventGives b s (m .lent .bytes) (m .lent .buffer) (m .lent .place) (m .lent .tally) (m .taken) (m .buffer) × Series b (m .taken .state) ms))
+series-said b s m ms = (noCall, (parts, λ (g, r). called g r))
+  where
+    parts : Series b s (m ∷ ms)
+        → EventGives b s (m .lent .bytes) (m .lent .buffer) (m .lent .place) (m .lent .tally) (m .taken) (m .buffer) × Series b (m .taken .state) ms
+    parts (called g r) = (g, r)
+
+pub trace-in-said : (ms : List Made) → traceIn ms ≡ map eventOfBytes (recordsOf ms)
+trace-in-said ms = refl
 
 pub bytes-said : (s : Bytes) (p x : ℕ)
     → WordAt s p x

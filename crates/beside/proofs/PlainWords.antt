@@ -1,0 +1,131 @@
+-- The words of the theorems on plain data (crate automaton) and of `positions`, `positions-left` (crate pattern), each with its text, so that no
+-- such statement can get weaker with no call moving.
+use mathlib.Core.Path.{_≡_, refl}
+use mathlib.Core.Bool.{true, false, cond, _&&_}
+use mathlib.Core.List.{List, [], _∷_, map, List·Memᴰ}
+use mathlib.Core.Logic.{_↔_, _⊎_, inl, inr, ⊎-elim}
+use Prim.Native.Nat.{ℕ, _+_, _^_, _≤_, _<_}
+use lib.Dec.{leb, ltb}
+use lib.ListN.{length, getD}
+use Rattle.laws.specs.Bits.{bit}
+use Rattle.laws.specs.Lists.{any, all}
+use Rattle.laws.specs.Order.{ascending}
+use Rattle.pattern.specs.Regex.{Regex, lit, cat, alt, star, plus, opt, In}
+use Rattle.pattern.specs.Positions.{size, symbols, beginning, ending, following, symbolAt, Has, Onward, stop, on, Spelling, Reach, start, next}
+use Rattle.meaning.specs.Events.{Event, Valuation, wellFormed, isValuation, concerns}
+use Rattle.meaning.specs.Meaning.{Tracematch, noSymbol, Row}
+use Rattle.meaning.specs.Book.{Book, bookOf, binds, soundSymbol, Proper}
+use Rattle.meaning.specs.Labels as Labels
+use Rattle.meaning.specs.Labels.{State, fresh, newHeld}
+use Rattle.meaning.specs.Room.{room}
+use Rattle.meaning.specs.Rows.{rows, compareValuations}
+use Rattle.meaning.specs.Runs.{Call, event, traceOf, run, given, stateAfter, heldAfter, rowLists, OrderlyFrom, finished, accepts, refuses, Orderly}
+use Rattle.meaning.specs.Runs.{Listed, Pairing, Dependent, Ordered}
+
+pub listed-said : (tm : Tracematch) (t : List Event) (n : ℕ) (l : List Valuation)
+    → Listed tm t n l ↔ ((ascending compareValuations l ≡ true) × ((σ : Valuation) → List·Memᴰ σ l ↔ Row tm t n σ))
+listed-said tm t n l = (λ r. (r .ordered, r .exact), λ (a, b). record { ordered = a; exact = b })
+
+pub pairing-said : {A : Type 0} (d : A) (t u : List A)
+    → Pairing d t u
+    ↔ ((to : ℕ → ℕ) × (back : ℕ → ℕ) × ((i : ℕ) → i < length t → to i < length u) × ((j : ℕ) → j < length u → back j < length t)
+    × ((i : ℕ) → i < length t → back (to i) ≡ i) × ((j : ℕ) → j < length u → to (back j) ≡ j)
+    × ((i : ℕ) → i < length t → getD u (to i) d ≡ getD t i d))
+pairing-said d t u = (
+  λ p. (p .to, p .back, p .to-inside, p .back-inside, p .back-to, p .to-back, p .same),
+  λ (x, y, a, b, c, e, f). record { to = x; back = y; to-inside = a; back-inside = b; back-to = c; to-back = e; same = f },
+)
+
+pub dependent-said : (tm : Tracematch) (e f : Event)
+    → Dependent tm e f
+    ↔ ((σ : Valuation) × (isValuation (tm .variables) σ ≡ true) × (concerns (tm .symbols) e σ ≡ true) × (concerns (tm .symbols) f σ ≡ true))
+dependent-said tm e f = (
+  λ r. (r .common, r .valuation, r .first, r .second),
+  λ (σ, a, b, c). record { common = σ; valuation = a; first = b; second = c },
+)
+
+pub ordered-said : {A : Type 0} (d : A) (held : A → Event) (tm : Tracematch) (t u : List A) (p : Pairing d t u)
+    → Ordered d held tm t u p
+    ↔ ((i j : ℕ) → i < j → j < length t → Dependent tm (held (getD t i d)) (held (getD t j d)) → p .to i < p .to j)
+ordered-said d held tm t u p = (λ r. r .keeps, λ f. record { keeps = f })
+
+pub well-formed-said : (e : Event)
+    → wellFormed e ≡ (leb 1 (e .kind) && leb (e .kind) 255 && leb (length (e .args)) 4 && all (λ x. ltb x (2 ^ 32)) (e .args))
+unfolding wellFormed
+well-formed-said e = refl
+
+-- a plain run: accepted events move the state and give something, refused ones do neither
+pub plain-run-said : {S R : Type 0} (step : S → Event → S) (give : S → Event → R) (s : S) (e : Event) (cs : List Call)
+    → ((traceOf [] ≡ []) × (traceOf (event e true ∷ cs) ≡ e ∷ traceOf cs) × (traceOf (event e false ∷ cs) ≡ traceOf cs))
+    × ((run step s [] ≡ s) × (run step s (event e true ∷ cs) ≡ run step (step s e) cs) × (run step s (event e false ∷ cs) ≡ run step s cs))
+    × ((given step give s [] ≡ []) × (given step give s (event e true ∷ cs) ≡ give s e ∷ given step give (step s e) cs)
+    × (given step give s (event e false ∷ cs) ≡ given step give s cs))
+plain-run-said step give s e cs = ((refl, refl, refl), (refl, refl, refl), (refl, refl, refl))
+
+pub plain-said : (tm : Tracematch) (cs : List Call)
+    → (stateAfter tm cs ≡ run (Labels.next (bookOf tm)) (record { number = 0; held = [] }) cs) × (heldAfter tm cs ≡ run (newHeld (bookOf tm)) [] cs)
+    × (rowLists tm cs ≡ given (newHeld (bookOf tm)) (rows (bookOf tm)) [] cs)
+plain-said tm cs = (refl, refl, refl)
+
+pub orderly-said : (b : Book) (s : State) (e : Event) (cs : List Call)
+    → (Orderly b cs ≡ OrderlyFrom b fresh cs) × OrderlyFrom b s []
+    × (OrderlyFrom b s (event e true ∷ cs)
+    ↔ ((wellFormed e ≡ true) × (s .number < 1000000) × (room b (s .held) e ≡ true) × OrderlyFrom b (Labels.next b s e) cs))
+    × (OrderlyFrom b s (event e false ∷ cs) ↔ OrderlyFrom b s cs)
+orderly-said b s e cs = (refl, finished, (taken, λ (w, l, r, o). accepts w l r o), (left, refuses))
+  where
+    taken : OrderlyFrom b s (event e true ∷ cs)
+        → (wellFormed e ≡ true) × (s .number < 1000000) × (room b (s .held) e ≡ true) × OrderlyFrom b (Labels.next b s e) cs
+    taken (accepts w l r o) = (w, l, r, o)
+
+    left : OrderlyFrom b s (event e false ∷ cs) → OrderlyFrom b s cs
+    left (refuses o) = o
+
+pub proper-said : (tm : Tracematch)
+    → Proper tm
+    ↔ ((tm .variables ≤ 4) × (1 ≤ length (tm .symbols)) × (length (tm .symbols) ≤ 16) × (all (soundSymbol (tm .variables)) (tm .symbols) ≡ true)
+    × (all (λ a. ltb a (length (tm .symbols))) (symbols (tm .pattern)) ≡ true) × (size (tm .pattern) ≤ 31) × (In (tm .pattern) [] → ⊥)
+    × ((v : ℕ) → v < tm .variables → (w : List ℕ) → In (tm .pattern) w
+    → any (λ a. any (binds v) (getD (tm .symbols) a noSymbol .parameters)) w ≡ true))
+proper-said tm = (
+  λ r. (r .variables, r .some, r .few, r .symbols, r .declared, r .occurrences, r .nonempty, r .binding),
+  λ (a, b, c, d, e, f, g, h).
+      record { variables = a; some = b; few = c; symbols = d; declared = e; occurrences = f; nonempty = g; binding = h },
+)
+
+pub symbol-at-said : (r s : Regex) (a k p : ℕ)
+    → (symbolAt (lit a) k p ≡ a) × (symbolAt (cat r s) k p ≡ cond (ltb p (k + size r)) (symbolAt r k p) (symbolAt s (k + size r) p))
+    × (symbolAt (alt r s) k p ≡ cond (ltb p (k + size r)) (symbolAt r k p) (symbolAt s (k + size r) p)) × (symbolAt (star r) k p ≡ symbolAt r k p)
+    × (symbolAt (plus r) k p ≡ symbolAt r k p) × (symbolAt (opt r) k p ≡ symbolAt r k p)
+symbol-at-said r s a k p = (refl, refl, refl, refl, refl, refl)
+
+-- a path of positions, from its first to its last
+pub onward-said : (r : Regex) (p q m : ℕ) (ps : List ℕ)
+    → (Has p m ≡ (bit p m ≡ true)) × (Onward r p [] ↔ Has p (ending r 1)) × (Onward r p (q ∷ ps) ↔ (Has q (following r 1 p) × Onward r q ps))
+onward-said r p q m ps = (refl, (ends, stop), (steps, λ (h, o). on h o))
+  where
+    ends : Onward r p [] → Has p (ending r 1)
+    ends (stop h) = h
+
+    steps : Onward r p (q ∷ ps) → Has q (following r 1 p) × Onward r q ps
+    steps (on h o) = (h, o)
+
+pub spelling-said : (r : Regex) (w : List ℕ)
+    → Spelling r w ↔ ((p : ℕ) × (ps : List ℕ) × Has p (beginning r 1) × Onward r p ps × (w ≡ map (symbolAt r 1) (p ∷ ps)))
+spelling-said r w = (
+  λ s. (s .at, s .rest, s .begins, s .onward, s .spells),
+  λ (p, ps, a, b, c). record { at = p; rest = ps; begins = a; onward = b; spells = c },
+)
+
+-- the same from the left, the word's newest symbol first
+pub reach-said : (r : Regex) (w : List ℕ) (p : ℕ)
+    → Reach r w p
+    ↔ ((Has p (beginning r 1) × (w ≡ symbolAt r 1 p ∷ []))
+    ⊎ ((v : List ℕ) × (q : ℕ) × Reach r v q × Has p (following r 1 q) × (w ≡ symbolAt r 1 p ∷ v)))
+reach-said r w p = (parts, ⊎-elim (λ (h, e). rw e (start h)) (λ (v, q, x, h, e). rw e (next x h)))
+  where
+    parts : {w : List ℕ} → Reach r w p
+        → (Has p (beginning r 1) × (w ≡ symbolAt r 1 p ∷ []))
+        ⊎ ((v : List ℕ) × (q : ℕ) × Reach r v q × Has p (following r 1 q) × (w ≡ symbolAt r 1 p ∷ v))
+    parts (start h) = inl (h, refl)
+    parts (next {w = v} {p = q} x h) = inr (v, q, x, h, refl)
