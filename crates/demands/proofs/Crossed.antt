@@ -47,10 +47,10 @@ in-order : (tm : Tracematch) (t u : List Bytes) (p : Partners t u) → InOrder t
 in-order tm t u p o = record { keeps = λ i j h k d. o .keeps i j h (rw length-map at k) (rw (event-at t i, event-at t j) at d) }
 
 -- a row has a value for each variable
-row-length : (tm : Tracematch) → Proper tm → {t : List Event} {n : ℕ} {l : List Valuation} → Listed tm t n l
+pub listed-width : (tm : Tracematch) → Proper tm → {t : List Event} {n : ℕ} {l : List Valuation} → Listed tm t n l
     → (σ : Valuation) → List·Memᴰ σ l → length σ ≤ 4
 unfolding isValuation
-row-length tm ok m σ h =
+listed-width tm ok m σ h =
     let e : length σ ≡ tm .variables = eqb-true _ _ (and-true-split (eqb (length σ) (tm .variables)) _ (m .exact σ .0 h .valuation) .0) in
     omega (arith, ok .variables)
 
@@ -78,9 +78,9 @@ partners-alike text d r f xs ys bx by p o i a c ha hc =
       counts = left .counted ∙ ap length same ∙ sym (right .counted);
       bytes = λ j h.
           rw (left .written, right .written)
-          (buffer-tail _ _ _ (row-length tm ok (left .meant)) _ _ (omega (arith, left .fitting)) j (rw (left .counted) at h)
+          (buffer-tail _ _ _ (listed-width tm ok (left .meant)) _ _ (omega (arith, left .fitting)) j (rw (left .counted) at h)
           ∙ ap (λ l. tail (tm .variables) (getD l j [])) same
-          ∙ sym (buffer-tail _ _ _ (row-length tm ok (right .meant)) _ _ (omega (arith, right .fitting)) j (rw (left .counted, same) at h)));
+          ∙ sym (buffer-tail _ _ _ (listed-width tm ok (right .meant)) _ _ (omega (arith, right .fitting)) j (rw (left .counted, same) at h)));
     }
 
 -- the call in a place

@@ -6,17 +6,15 @@ use mathlib.Core.List.{List, [], _∷_, map}
 use mathlib.Core.Logic.{_↔_}
 use Prim.Native.Nat.{ℕ, suc, _+_, _-_, _*_, _≤_, _<_}
 use native.Mathlib.Omega.{arith}
-use borrow.Author.Tests.{eqb-true}
-use lib.Dec.{eqb}
 use lib.ListN.{length, getD, take, drop}
 use lib.Seq.{getD-take, getD-drop}
 use Rattle.laws.proofs.Lists.{and-true-split}
 use Rattle.pattern.specs.Regex.{Regex}
-use Rattle.meaning.specs.Events.{Event, Valuation, isValuation}
+use Rattle.meaning.specs.Events.{Event}
 use Rattle.meaning.specs.Meaning.{Tracematch}
-use Rattle.meaning.specs.Runs.{Listed}
 use Rattle.form.specs.Text.{Bytes, isBytes, Declarations, tracematchOf}
 use Rattle.form.specs.Form.{Form}
+use Rattle.parsing.proofs.Accepted.{form-proper}
 use Rattle.record.specs.Records.{isRecord}
 use Rattle.book.specs.declared.Book.{Book}
 use Rattle.book.specs.declared.Reading.{Reading}
@@ -30,13 +28,13 @@ use Rattle.calls.specs.Runs.{outOfForm, tooMany, noRoom, noSpace, accepted, Par
 use Rattle.demands.proofs.Checks.{fresh-state}
 use Rattle.demands.proofs.Listed.{listed}
 use Rattle.demands.proofs.Answered.{answered}
-use Rattle.demands.proofs.Crossed.{crossed}
+use Rattle.demands.proofs.Crossed.{listed-width, crossed}
 use Rattle.demands.proofs.RunWords.{crossed-words}
 use Rattle.promises.specs.Formats.{InRecord}
 use Rattle.promises.specs.ReadResults.{ReadGives}
 use Rattle.promises.specs.EventResults.{stateOfNothing, EventGives, Series, noCall, called, traceIn, RowsKept, RowsAlike, ResultsKeep}
 use Rattle.promises.proofs.Whether.{whether}
-use Rattle.promises.proofs.Formats.{event-read, record-read, Few, rows-read}
+use Rattle.promises.proofs.Formats.{event-read, record-read, rows-read}
 use Rattle.promises.proofs.ReadResults.{read-given, reading-decided}
 use Rattle.promises.proofs.EventResults.{tally-given, event-given, event-decided}
 
@@ -84,20 +82,15 @@ module _ (text : Bytes) (d : Declarations) (q : Regex) (f : Form text d q) where
   abbrev tmDeclared : Tracematch
   tmDeclared = tracematchOf d q
 
-  -- a row has a value for each variable
-  few : {t : List Event} {n : ℕ} {l : List Valuation} → Listed tmDeclared t n l → Few l
-  unfolding isValuation
-  few m σ h =
-      let e : length σ ≡ tmDeclared .variables = eqb-true _ _ (and-true-split (eqb (length σ) (tmDeclared .variables)) _ (m .exact σ .0 h .valuation) .0) in
-      omega (arith, e, f .shape .fewVariables)
-
   -- demand 2 of a call, in bytes
   kept : {t : List Event} {n : ℕ} {m : Made} → Delivered tmDeclared t n m → RowsKept tmDeclared t n m
   kept {n = n} {m = m} w = record {
     valuations = w .valuations;
     meant = w .meant;
     counted = w .counted;
-    written = rw (w .written) (rows-read (m .lent .buffer) (m .lent .place) n (tmDeclared .variables) (w .valuations) (few (w .meant)) (w .fitting));
+    written =
+        let few = listed-width tmDeclared (form-proper text d q f) (w .meant) in
+        rw (w .written) (rows-read (m .lent .buffer) (m .lent .place) n (tmDeclared .variables) (w .valuations) few (w .fitting));
     tallies = rw (w .tallies) (tally-given (m .lent .tally) 1 0 (length (w .valuations)));
     numbered = w .numbered;
   }
