@@ -5,6 +5,7 @@ use mathlib.Core.List.{List, [], _∷_, _++_}
 use Prim.Native.Nat.{ℕ, suc, _+_, _*_}
 use lib.Dec.{eqb, ltb}
 use lib.ListN.{length}
+use Rattle.laws.specs.Checks.{Check, firstFailing}
 use Rattle.laws.specs.Lists.{gather}
 use Rattle.laws.specs.Parts.{splice}
 use Rattle.meaning.specs.Events as Events
@@ -22,7 +23,6 @@ use Rattle.sound.specs.Soundness.{bookSound, stateSound}
 use Rattle.row.specs.RowBytes.{rowSize, rowBytes}
 use Rattle.tally.specs.declared.Tally.{Tally}
 use Rattle.tally.specs.Tallies.{tallied}
-use Rattle.calls.specs.Answers.{Check, firstOf}
 use Rattle.calls.specs.declared.EventAnswer.{EventAnswer}
 use Rattle.calls.specs.declared.EventAnswer.the-variants.{Accepted, Unsound, OutOfForm, TooMany, NoRoom, NoSpace}
 use Rattle.calls.specs.declared.Taken.{Taken}
@@ -73,7 +73,7 @@ module _ (b : Book) (s : State) (record-bytes : Bytes) where
   noRoom = not (roomBy b s (eventIn record-bytes))
 
   -- the checks that do not look at what is lent for the rows
-  abbrev pub decisions : List Check
+  abbrev pub decisions : List (Check EventAnswer)
   decisions =
       record { fails = unsound; answer = Unsound }
       ∷ record { fails = outOfForm; answer = OutOfForm }
@@ -87,7 +87,7 @@ module _ (b : Book) (s : State) (record-bytes : Bytes) where
     noSpace = ltb (length buffer) (place + rowSize * length (rowsBy b s (eventIn record-bytes)))
 
     unfoldable pub answerTo : EventAnswer
-    answerTo = firstOf (decisions ++ (record { fails = noSpace; answer = NoSpace } ∷ []))
+    answerTo = firstFailing Accepted (decisions ++ (record { fails = noSpace; answer = NoSpace } ∷ []))
 
     -- all that the call hands back: on acceptance the next state, the count of its rows and a tally of one accepted event and those
     -- rows more; on refusal the state as it came and one refused event more

@@ -1,13 +1,14 @@
 -- For any book and state, reached by a run or not: the number that a call hands back is that of the first check that fails, a refusal
 -- leaves all but the refused counter, and an event has few rows.
 use mathlib.Core.Path.{_≡_, refl, sym, ap, _∙_}
-use mathlib.Core.Bool.{Bool, true, false, cond, not, _&&_, _||_, and-false, or-true, false≢true}
+use mathlib.Core.Bool.{Bool, true, false, not, _&&_, _||_, and-false, or-true, false≢true}
 use mathlib.Core.List.{List, [], _∷_, map, List·Memᴰ}
 use mathlib.Core.Logic.{_↔_, Iff·trans, _⊎_, inl, inr, ⊎-elim}
 use Prim.Native.Nat.{ℕ, suc, _+_, _-_, _*_, _^_, _≤_, _<_}
 use native.Mathlib.Omega.{arith}
-use borrow.Author.Tests.{eqb-true, eqb-false, eq-eqb, ltb-true, lt-ltb, not-true}
-use lib.Dec.{eqb, leb}
+use borrow.Author.Tests.{eqb-true, eq-eqb, ltb-true, lt-ltb, not-true}
+use lib.Dec.{leb}
+use Rattle.laws.specs.Checks.{Check}
 use Rattle.laws.specs.Lists.{any, keep, gather}
 use Rattle.meaning.specs.Events.{Event, constraintOf}
 use Rattle.meaning.specs.Book as Plain
@@ -20,7 +21,8 @@ use Rattle.automaton.proofs.Bound.{closed}
 use Rattle.automaton.proofs.Few.{few-rows}
 use Rattle.automaton.proofs.Members.{stepSet-member}
 use Rattle.automaton.proofs.NoRoom.{no-room}
-use Rattle.laws.proofs.Lists.{any-found, mem-keep, same-test, and-true-split, and-false-split, or-true-split, or-false-split, either}
+use Rattle.laws.proofs.Checks.{number-behind, number-first, number-otherwise}
+use Rattle.laws.proofs.Lists.{any-found, mem-keep, same-test, and-true-split, and-false-split, or-true-split, either}
 use Rattle.form.specs.Text.{Bytes}
 use Rattle.record.specs.Records.{isRecord, eventIn}
 use Rattle.book.specs.Books.{viewBook}
@@ -36,7 +38,7 @@ use Rattle.tally.specs.declared.Tally.{Tally}
 use Rattle.tally.specs.Tallies.{capped, tallied}
 use Rattle.tally.proofs.Tallies.{each, capped-more, capped-full}
 use Rattle.row.specs.RowBytes.{rowBytes}
-use Rattle.calls.specs.Answers.{Check, numberOf, firstOf}
+use Rattle.calls.specs.Answers.{numberOf}
 use Rattle.calls.specs.Calls as Calls
 use Rattle.calls.specs.Calls.{freshState, isAccepted, rowsBy, stateBy, leavesFreeBy, roomBy, answerTo, taken, bufferAfter}
 use Rattle.calls.specs.Checks.{Unsound, unsoundBook, unsoundState, leftFree, OutOfForm, TooMany, NoRoom, NoSpace, FirstFailing}
@@ -45,47 +47,6 @@ use Rattle.calls.specs.declared.EventAnswer.{EventAnswer}
 use Rattle.calls.specs.declared.EventAnswer.the-variants as Answer
 use Rattle.calls.specs.declared.Taken.{Taken}
 use Rattle.demands.proofs.Course.{taken-answer, taken-refused, taken-accepted}
-
--- Lists of checks, and the number of the first that fails.
-module _ (x : ℕ) where
-  -- some check of the list has the number x, or acceptance has
-  abbrev gives : List Check → Bool
-  gives [] = eqb 0 x
-  gives (c ∷ cs) = eqb (numberOf (c .answer)) x || gives cs
-
-  never-gives : (cs : List Check) → gives cs ≡ false → numberOf (firstOf cs) ≡ x → ⊥
-  never-gives [] h e = eqb-false 0 x h e
-  never-gives (c ∷ cs) h e =
-      let (p, q) = or-false-split (eqb (numberOf (c .answer)) x) (gives cs) h in
-      either (λ a. numberOf a ≡ x → ⊥) (c .fails) (λ _. eqb-false _ x p) (λ _. never-gives cs q) e
-
-  -- the number is behind the first check, which fails just where P is
-  behind-first : (c : Check) (cs : List Check) → eqb (numberOf (c .answer)) x ≡ false → {P Q : Type 0} → (c .fails ≡ true) ↔ P
-      → (numberOf (firstOf cs) ≡ x) ↔ Q → (numberOf (firstOf (c ∷ cs)) ≡ x) ↔ ((P → ⊥) × Q)
-  behind-first c cs h {P} {Q} p k =
-      go (c .fails) p
-    where
-      go : (z : Bool) → (z ≡ true) ↔ P → (numberOf (cond z (c .answer) (firstOf cs)) ≡ x) ↔ ((P → ⊥) × Q)
-      go true p = (λ e. absurd (eqb-false _ x h e), λ e. absurd (e .0 (p .0 refl)))
-      go false p = (λ e. (λ y. false≢true (p .1 y), k .0 e), λ e. k .1 (e .1))
-
--- the number is that of the first check
-at-first : (c : Check) (cs : List Check) → gives (numberOf (c .answer)) cs ≡ false
-    → (numberOf (firstOf (c ∷ cs)) ≡ numberOf (c .answer)) ↔ (c .fails ≡ true)
-at-first c cs h = go (c .fails)
-  where
-    go : (z : Bool) → (numberOf (cond z (c .answer) (firstOf cs)) ≡ numberOf (c .answer)) ↔ (z ≡ true)
-    go true = (λ _. refl, λ _. refl)
-    go false = (λ e. absurd (never-gives _ cs h e), λ e. absurd (false≢true e))
-
--- the last check: none fails
-passed : (c : Check) → eqb (numberOf (c .answer)) 0 ≡ false → {P : Type 0} → (c .fails ≡ true) ↔ P → (numberOf (firstOf (c ∷ [])) ≡ 0) ↔ (P → ⊥)
-passed c h {P} p =
-    go (c .fails) p
-  where
-    go : (z : Bool) → (z ≡ true) ↔ P → (numberOf (cond z (c .answer) Answer.Accepted) ≡ 0) ↔ (P → ⊥)
-    go true p = (λ e. absurd (eqb-false _ 0 h e), λ e. absurd (e (p .0 refl)))
-    go false p = (λ _ y. false≢true (p .1 y), λ _. refl)
 
 -- three, four and five facts in a row
 row3 : {N A B C : Type 0} → N ↔ (A × (B × C)) → N ↔ (A × B × C)
@@ -157,11 +118,11 @@ pub first-failing : (b : Book) (s : State) (bytes buffer : Bytes) (place : ℕ) 
 unfolding answerTo
 first-failing b s bytes buffer place t =
     let l : Lent = record { bytes = bytes; buffer = buffer; place = place; tally = t } in
-    let c9 : Check = record { fails = Calls.unsound b s bytes; answer = Answer.Unsound } in
-    let c10 : Check = record { fails = Calls.outOfForm b s bytes; answer = Answer.OutOfForm } in
-    let c11 : Check = record { fails = Calls.tooMany b s bytes; answer = Answer.TooMany } in
-    let c12 : Check = record { fails = Calls.noRoom b s bytes; answer = Answer.NoRoom } in
-    let c13 : Check = record { fails = Calls.noSpace b s bytes buffer place; answer = Answer.NoSpace } in
+    let c9 : Check EventAnswer = record { fails = Calls.unsound b s bytes; answer = Answer.Unsound } in
+    let c10 : Check EventAnswer = record { fails = Calls.outOfForm b s bytes; answer = Answer.OutOfForm } in
+    let c11 : Check EventAnswer = record { fails = Calls.tooMany b s bytes; answer = Answer.TooMany } in
+    let c12 : Check EventAnswer = record { fails = Calls.noRoom b s bytes; answer = Answer.NoRoom } in
+    let c13 : Check EventAnswer = record { fails = Calls.noSpace b s bytes buffer place; answer = Answer.NoSpace } in
     let l13 = c13 ∷ [] in
     let l12 = c12 ∷ l13 in
     let l11 = c11 ∷ l12 in
@@ -172,15 +133,15 @@ first-failing b s bytes buffer place t =
     let p12 = noRoom-is b s bytes in
     let p13 = noSpace-is b s bytes buffer place in
     rw (taken-answer b s l) (record {
-      nine = Iff·trans (at-first c9 l10 refl) p9;
-      ten = behind-first 10 c9 l10 refl p9 (Iff·trans (at-first c10 l11 refl) p10);
-      eleven = row3 (behind-first 11 c9 l10 refl p9 (behind-first 11 c10 l11 refl p10 (Iff·trans (at-first c11 l12 refl) p11)));
-      twelve = row4 (behind-first 12 c9 l10 refl p9 (behind-first 12 c10 l11 refl p10 (behind-first 12 c11 l12 refl p11
-          (Iff·trans (at-first c12 l13 refl) p12))));
-      thirteen = row5 (behind-first 13 c9 l10 refl p9 (behind-first 13 c10 l11 refl p10 (behind-first 13 c11 l12 refl p11
-          (behind-first 13 c12 l13 refl p12 (Iff·trans (at-first c13 [] refl) p13)))));
-      zero = row5 (behind-first 0 c9 l10 refl p9 (behind-first 0 c10 l11 refl p10 (behind-first 0 c11 l12 refl p11
-          (behind-first 0 c12 l13 refl p12 (passed c13 refl p13)))));
+      nine = Iff·trans (number-first Answer.Accepted numberOf c9 l10 refl) p9;
+      ten = number-behind Answer.Accepted numberOf 10 c9 l10 refl p9 (Iff·trans (number-first Answer.Accepted numberOf c10 l11 refl) p10);
+      eleven = row3 (number-behind Answer.Accepted numberOf 11 c9 l10 refl p9 (number-behind Answer.Accepted numberOf 11 c10 l11 refl p10 (Iff·trans (number-first Answer.Accepted numberOf c11 l12 refl) p11)));
+      twelve = row4 (number-behind Answer.Accepted numberOf 12 c9 l10 refl p9 (number-behind Answer.Accepted numberOf 12 c10 l11 refl p10 (number-behind Answer.Accepted numberOf 12 c11 l12 refl p11
+          (Iff·trans (number-first Answer.Accepted numberOf c12 l13 refl) p12))));
+      thirteen = row5 (number-behind Answer.Accepted numberOf 13 c9 l10 refl p9 (number-behind Answer.Accepted numberOf 13 c10 l11 refl p10 (number-behind Answer.Accepted numberOf 13 c11 l12 refl p11
+          (number-behind Answer.Accepted numberOf 13 c12 l13 refl p12 (Iff·trans (number-first Answer.Accepted numberOf c13 [] refl) p13)))));
+      zero = row5 (number-behind Answer.Accepted numberOf 0 c9 l10 refl p9 (number-behind Answer.Accepted numberOf 0 c10 l11 refl p10 (number-behind Answer.Accepted numberOf 0 c11 l12 refl p11
+          (number-behind Answer.Accepted numberOf 0 c12 l13 refl p12 (number-otherwise Answer.Accepted numberOf c13 refl p13)))));
     })
 
 -- acceptance is 0, and nothing else is

@@ -6,6 +6,7 @@ pub mod Bits
 pub mod Order
 pub mod Sets
 pub mod Parts
+pub mod Checks
 pub mod Maps
 pub mod Arrays
 pub mod Turns

@@ -5,3 +5,4 @@ pub mod Bits
 pub mod Order
 pub mod Sets
 pub mod Parts
+pub mod Checks

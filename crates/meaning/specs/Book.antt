@@ -44,6 +44,19 @@ bookOf tm =
       empty = nullable r;
     }
 
+-- the same book where a match begins at the positions of another set
+abbrev pub startingAt : ℕ → Book → Book
+startingAt m b =
+    record {
+      variables = b .variables;
+      symbols = b .symbols;
+      occurrences = b .occurrences;
+      begins = m;
+      ends = b .ends;
+      follows = b .follows;
+      empty = b .empty;
+    }
+
 module _ (b : Book) where
   -- "positions 1 to 31": those that the book has
   abbrev pub positions : List ℕ

@@ -150,9 +150,13 @@ pub record State : Type 0 where
   pub number : ℕ
   pub held : List Held
 
+-- nothing held after so many events
+abbrev pub freshAt : ℕ → State
+freshAt n = record { number = n; held = [] }
+
 -- "A fresh state has all 128 disjunct places free and event number 0."
 abbrev pub fresh : State
-fresh = record { number = 0; held = [] }
+fresh = freshAt 0
 
 -- the state after an accepted event: "event number (… from 1, counting accepted events)"
 abbrev pub next : Book → State → Event → State

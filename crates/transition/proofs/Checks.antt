@@ -22,7 +22,8 @@ use Rattle.sound.proofs.Soundness.{book-counts, book-view, book-symbols, state-
 use Rattle.record.specs.declared.Decoded.{Decoded}
 use Rattle.record.specs.Records.{isRecord, eventIn, eventOf, viewEvent, decoded}
 use Rattle.record.proofs.Records.{decoded-ok, decoded-event, view-event, event-count, event-few}
-use Rattle.calls.specs.Answers.{numberOf, firstOf}
+use Rattle.laws.specs.Checks.{firstFailing}
+use Rattle.calls.specs.Answers.{numberOf}
 use Rattle.calls.specs.Calls.{leavesFreeBy, roomBy, unsound, outOfForm, tooMany, noRoom, decisions}
 use Rattle.transition.specs.Moves.{judgedNumber}
 use Rattle.calls.specs.declared.EventAnswer.the-variants.{Accepted, Unsound, TooMany, NoRoom}
@@ -64,7 +65,7 @@ module _ (b : Book) (s : State) (e : Events.Event) where
 
 -- the number of the answer by the checks that do not look at what is lent for the rows
 abbrev pub stepNumber : Book → State → List ℕ → ℕ
-stepNumber b s r = numberOf (firstOf (decisions b s r))
+stepNumber b s r = numberOf (firstFailing Accepted (decisions b s r))
 
 module _ (b : Book) (s : State) (r : List ℕ) where
   number-unsound : (bookSound b && stateSound b s) ≡ false → stepNumber b s r ≡ 9

@@ -20,7 +20,9 @@ ghost use Rattle.book.specs.Books.{viewBook};
 ghost use Rattle.packed.specs.Held.{heldIn};
 ghost use Rattle.state.specs.States.{heldFirst};
 ghost use Rattle.sound.specs.Soundness.{bookSound, stateSound};
-ghost use Rattle.calls.specs.Answers.{numberOf, firstOf};
+ghost use Rattle.laws.specs.Checks.{firstFailing};
+ghost use Rattle.calls.specs.Answers.{numberOf};
+ghost use Rattle.calls.specs.declared.EventAnswer.the-variants.{Accepted};
 ghost use Rattle.calls.specs.Calls.{roomBy, decisions};
 ghost use Rattle.transition.specs.Moves.{judgedNumber, Moved};
 
@@ -99,7 +101,7 @@ fn judged(book: Book, state: State, e: Event, out: &mut rows::Words) -> Stepped
 
 // Any record with any book and state.
 pub fn step(book: Book, state: State, bytes: &[u8], out: &mut rows::Words) -> Stepped
-    ensures { λ r. ⌜ (r .number ≡ numberOf (firstOf (decisions book state (now (bytes .entry)))))
+    ensures { λ r. ⌜ (r .number ≡ numberOf (firstFailing Accepted (decisions book state (now (bytes .entry)))))
         × (r .number ≡ 0 → Moved book state (eventIn (now (bytes .entry))) (r .state) (r .rows) (now (out .exit))) ⌝ }
 {
     if sound::sound_book(book) {

@@ -1,0 +1,98 @@
+-- Laws of the first failing check: what is given is unique, is what the computed list gives, and is the number of a check just where that check is
+-- the first that fails. For every list of checks that a call goes through.
+use mathlib.Core.Path.{_≡_, refl, ap}
+use mathlib.Core.Bool.{Bool, true, false, cond, _||_, false≢true}
+use mathlib.Core.List.{List, [], _∷_, map}
+use mathlib.Core.Logic.{_↔_}
+use Prim.Native.Nat.{ℕ}
+use borrow.Author.Tests.{eqb-true, eqb-false}
+use lib.Dec.{eqb}
+use Rattle.laws.specs.Checks.{Check, firstFailing, FirstToFail, noneFails, failsHere, failsLater}
+use Rattle.laws.proofs.Lists.{or-false-split, either}
+
+-- a check that fails answers; one that passes leaves the answer to those behind it
+module _ {A : Type 0} (otherwise : A) (c : Check A) (cs : List (Check A)) where
+  pub first-fails : c .fails ≡ true → firstFailing otherwise (c ∷ cs) ≡ c .answer
+  first-fails h = rw h
+
+  pub first-passes : c .fails ≡ false → firstFailing otherwise (c ∷ cs) ≡ firstFailing otherwise cs
+  first-passes h = rw h
+
+module _ {K N : Type 0} {Fails Passes : K → Type 0} {number : K → N} {otherwise : N} where
+  -- no check both fails and passes: one answer at most
+  pub first-once : ((k : K) → Fails k → Passes k → ⊥) → {ks : List K} {n m : N}
+      → FirstToFail Fails Passes number otherwise ks n → FirstToFail Fails Passes number otherwise ks m → n ≡ m
+  first-once apart noneFails noneFails = refl
+  first-once apart (failsHere f) (failsHere g) = refl
+  first-once apart (failsHere {k = k} f) (failsLater p y) = absurd (apart k f p)
+  first-once apart (failsLater {k = k} p x) (failsHere f) = absurd (apart k f p)
+  first-once apart (failsLater p x) (failsLater q y) = first-once apart x y
+
+  -- the same checks in other words
+  pub first-told : {Breaks Holds : K → Type 0} → ((k : K) → Fails k → Breaks k) → ((k : K) → Passes k → Holds k) → {ks : List K} {n : N}
+      → FirstToFail Fails Passes number otherwise ks n → FirstToFail Breaks Holds number otherwise ks n
+  first-told f g noneFails = noneFails
+  first-told f g (failsHere {k = k} x) = failsHere (f k x)
+  first-told f g (failsLater {k = k} x y) = failsLater (g k x) (first-told f g y)
+
+  -- and their answers by another name
+  pub first-named : {M : Type 0} (name : N → M) {ks : List K} {n : N}
+      → FirstToFail Fails Passes number otherwise ks n → FirstToFail Fails Passes (λ k. name (number k)) (name otherwise) ks (name n)
+  first-named name noneFails = noneFails
+  first-named name (failsHere x) = failsHere x
+  first-named name (failsLater x y) = failsLater x (first-named name y)
+
+-- one more check before the others, as it is computed
+pub first-more : {A : Type 0} {Fails Passes : A → Type 0} {otherwise : A} (c : Check A) (cs : List (Check A))
+    → (c .fails ≡ true → Fails (c .answer)) → (c .fails ≡ false → Passes (c .answer))
+    → FirstToFail Fails Passes (λ a. a) otherwise (map (λ d. d .answer) cs) (firstFailing otherwise cs)
+    → FirstToFail Fails Passes (λ a. a) otherwise (c .answer ∷ map (λ d. d .answer) cs) (firstFailing otherwise (c ∷ cs))
+first-more {A} {Fails} {Passes} {otherwise} c cs f p r = go (c .fails) f p
+  where
+    go : (z : Bool) → (z ≡ true → Fails (c .answer)) → (z ≡ false → Passes (c .answer))
+        → FirstToFail Fails Passes (λ a. a) otherwise (c .answer ∷ map (λ d. d .answer) cs) (cond z (c .answer) (firstFailing otherwise cs))
+    go true f p = failsHere (f refl)
+    go false f p = failsLater (p refl) r
+
+-- Each number is given just where its check is the first that fails, if no other check has it.
+module _ {A : Type 0} (otherwise : A) (number : A → ℕ) where
+  module _ (x : ℕ) where
+    -- some check of the list has the number x, or `otherwise` has
+    abbrev pub gives : List (Check A) → Bool
+    gives [] = eqb (number otherwise) x
+    gives (c ∷ cs) = eqb (number (c .answer)) x || gives cs
+
+    never-gives : (cs : List (Check A)) → gives cs ≡ false → number (firstFailing otherwise cs) ≡ x → ⊥
+    never-gives [] h e = eqb-false (number otherwise) x h e
+    never-gives (c ∷ cs) h e =
+        let (p, q) = or-false-split (eqb (number (c .answer)) x) (gives cs) h in
+        either (λ a. number a ≡ x → ⊥) (c .fails) (λ _. eqb-false _ x p) (λ _. never-gives cs q) e
+
+    -- the number is behind the first check, which fails just where P is
+    pub number-behind : (c : Check A) (cs : List (Check A)) → eqb (number (c .answer)) x ≡ false → {P Q : Type 0} → (c .fails ≡ true) ↔ P
+        → (number (firstFailing otherwise cs) ≡ x) ↔ Q → (number (firstFailing otherwise (c ∷ cs)) ≡ x) ↔ ((P → ⊥) × Q)
+    number-behind c cs h {P} {Q} p k =
+        go (c .fails) p
+      where
+        go : (z : Bool) → (z ≡ true) ↔ P → (number (cond z (c .answer) (firstFailing otherwise cs)) ≡ x) ↔ ((P → ⊥) × Q)
+        go true p = (λ e. absurd (eqb-false _ x h e), λ e. absurd (e .0 (p .0 refl)))
+        go false p = (λ e. (λ y. false≢true (p .1 y), k .0 e), λ e. k .1 (e .1))
+
+  -- the number is that of the first check
+  pub number-first : (c : Check A) (cs : List (Check A)) → gives (number (c .answer)) cs ≡ false
+      → (number (firstFailing otherwise (c ∷ cs)) ≡ number (c .answer)) ↔ (c .fails ≡ true)
+  number-first c cs h = go (c .fails)
+    where
+      go : (z : Bool) → (number (cond z (c .answer) (firstFailing otherwise cs)) ≡ number (c .answer)) ↔ (z ≡ true)
+      go true = (λ _. refl, λ _. refl)
+      go false = (λ e. absurd (never-gives _ cs h e), λ e. absurd (false≢true e))
+
+  -- the last check: none fails
+  pub number-otherwise : (c : Check A) → eqb (number (c .answer)) (number otherwise) ≡ false → {P : Type 0} → (c .fails ≡ true) ↔ P
+      → (number (firstFailing otherwise (c ∷ [])) ≡ number otherwise) ↔ (P → ⊥)
+  number-otherwise c h {P} p =
+      go (c .fails) p
+    where
+      go : (z : Bool) → (z ≡ true) ↔ P → (number (cond z (c .answer) otherwise) ≡ number otherwise) ↔ (P → ⊥)
+      go true p = (λ e. absurd (eqb-false _ _ h e), λ e. absurd (e (p .0 refl)))
+      go false p = (λ _ y. false≢true (p .1 y), λ _. refl)
