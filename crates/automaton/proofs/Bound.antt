@@ -3,13 +3,14 @@ use mathlib.Core.Path.{_≡_, refl, sym, ap, subst₂, _∙_}
 use mathlib.Core.Bool.{Bool, true, false, cond, _&&_, _||_, false≢true, or-comm, or-false}
 use mathlib.Core.List.{List, [], _∷_, map, reverse, reverse-cons, List·Memᴰ, List·Memᴰ·not-nil}
 use mathlib.Core.Logic.{⊎-elim, dite}
-use Prim.Native.Nat.{ℕ, _+_, _-_, _<_}
+use Prim.Native.Nat.{ℕ, suc, _+_, _-_, _<_}
 use native.Mathlib.Decide.{ℕ-discrete}
 use native.Mathlib.Omega.{arith}
 use lib.Dec.{eqb}
 use lib.ListN.{length, getD, length-set, length-replicate, length-map, List·getD-map}
 use lib.Seq.{getD-set-same, getD-set-other, map-set-same}
 use borrow.Author.Tests.{eqb-true}
+use Rattle.laws.specs.Bits.{bit}
 use Rattle.laws.specs.Lists.{any}
 use Rattle.laws.proofs.Lists.{and-true-split, or-true-split, any-append, any-agree, any-false, any-none, mem-keep, mem-index, getD-numbers}
 use Rattle.pattern.specs.Regex.{In}
@@ -20,14 +21,16 @@ use Rattle.pattern.proofs.Spell.{positions-left}
 use Rattle.meaning.specs.Events.{Parameter, ignored, names, Symbol, Event, Demand, Constraint, never, demands}
 use Rattle.meaning.specs.Events.{matches, demandsOf, consistent, constraintOf}
 use Rattle.meaning.specs.Meaning.{Tracematch, noSymbol}
-use Rattle.meaning.specs.Book.{Book, bookOf, Proper, binds, positions, endsAt, followsAt, symbolOf}
+use Rattle.meaning.specs.Book.{Book, bookOf, startingAt, Proper, binds, positions, endsAt, followsAt, symbolOf}
 use Rattle.meaning.specs.Labels.{Entry, bound, free, Disjunct, entryOf, isFree, bind, metAll, meets, met}
-use Rattle.meaning.specs.Labels.{excluding, skipOne, Held, sources, stepSet, skipSet, newHeld}
+use Rattle.meaning.specs.Labels.{excluding, skipOne, Held, sources, stepSet, skipSet, newHeld, freshAt, fresh}
 use Rattle.meaning.specs.Rows.{leavesFree}
-use Rattle.meaning.specs.Runs.{Call, event, run, heldAfter}
+use Rattle.meaning.specs.Runs.{Call, run, heldAfter}
 use Rattle.automaton.proofs.Fits.{met-length}
 use Rattle.automaton.proofs.Members.{stepSet-member}
 use Rattle.automaton.proofs.Stems.{skip-cases, label-held, skip-kept, source-cases, new-cases}
+use Rattle.automaton.proofs.Plain.{kept-run, run-held}
+use Rattle.automaton.proofs.Automaton.{limited, limited-begins, nextBy}
 
 none-pass : {A : Type 0} (f : A → Bool) (l : List A) → ((x : A) → List·Memᴰ x l → f x ≡ false) → any f l ≡ false
 none-pass f l h = any-agree f (λ x. false) l h ∙ any-false l
@@ -143,7 +146,11 @@ module _ (tm : Tracematch) where
   unfolding bookOf
   symbol-at {q = q} r = ap (λ a. getD (tm .symbols) a noSymbol) (sym (symbolAt-list (tm .pattern) 1 q (reach-among r)))
 
-  module _ (held : List Held) (backed : AllBacked held) (e : Event) where
+  -- the book, or the same with fewer beginning positions
+  module _ (m : ℕ) (fewer : (q : ℕ) → bit q m ≡ true → Has q (Positions.beginning (tm .pattern) 1)) (held : List Held) (backed : AllBacked held) (e : Event) where
+    abbrev book : Book
+    book = startingAt m (bookOf tm)
+
     -- a path to q that goes on from one behind D is behind D met with the constraint of q's symbol
     step-on : (q : ℕ) (w : List ℕ) (D : Disjunct) → Reach (tm .pattern) (Positions.symbolAt (tm .pattern) 1 q ∷ w) q → length D ≡ tm .variables
         → ((v : ℕ) → v < tm .variables → bindsIn v w ≡ true → hasValue D v) → meets D (constraintOf (symbolOf (bookOf tm) q) e) ≡ true
@@ -157,47 +164,57 @@ module _ (tm : Tracematch) where
           (λ x. met-keeps (constraintOf (symbolOf (bookOf tm) q) e) D v (rw l h) (old v h x)) (or-true-split _ _ n);
     }
 
-    step-backed : (q : ℕ) (D : Disjunct) → List·Memᴰ D (sources (bookOf tm) held q) → meets D (constraintOf (symbolOf (bookOf tm) q) e) ≡ true
+    step-backed : (q : ℕ) (D : Disjunct) → List·Memᴰ D (sources book held q) → meets D (constraintOf (symbolOf (bookOf tm) q) e) ≡ true
         → Backed q (met D (constraintOf (symbolOf (bookOf tm) q) e))
     unfolding bookOf
-    step-backed q D m k =
-        ⊎-elim (λ s. step-on q [] D (start (s .0)) (ap length (s .1) ∙ length-replicate _ _) (λ v h n. absurd (false≢true n)) k)
+    step-backed q D n k =
+        ⊎-elim (λ s. step-on q [] D (start (fewer q (s .0))) (ap length (s .1) ∙ length-replicate _ _) (λ v h n. absurd (false≢true n)) k)
         (λ s. let o = backed (s .0) (s .1) in
         step-on q (o .word) D (next (o .path) (follows-has q (o .path) (s .2))) (ap length (s .3) ∙ o .wide) (rw (s .3) (o .binding)) k)
-        (source-cases (bookOf tm) held q m)
+        (source-cases book held q n)
 
-    skip-backed : (p : ℕ) (D : Disjunct) → List·Memᴰ D (skipSet (bookOf tm) held e p) → Backed p D
+    skip-backed : (p : ℕ) (D : Disjunct) → List·Memᴰ D (skipSet book held e p) → Backed p D
     skip-backed p =
         skip-kept e (Backed p) (λ s D o E n. let same = skip-free (constraintOf s e) D E n in record {
           wide = sym (length-map E isFree) ∙ ap length same ∙ length-map D isFree ∙ o .wide;
           word = o .word;
           path = o .path;
           binding = λ v h k. same-value D E same v (o .binding v h k);
-        }) (bookOf tm) held p (λ D m. let r = label-held held p m in subst₂ Backed (r .2) (sym (r .3)) (backed (r .0) (r .1)))
+        }) book held p (λ D m. let r = label-held held p m in subst₂ Backed (r .2) (sym (r .3)) (backed (r .0) (r .1)))
 
-    new-backed : AllBacked (newHeld (bookOf tm) held e)
-    new-backed h m =
+    new-backed : AllBacked (newHeld book held e)
+    new-backed h n =
         ⊎-elim (skip-backed (h .position) (h .disjunct))
-        (λ n. let r = stepSet-member (bookOf tm) held e (h .position) (h .disjunct) .0 n in rw (r .3) (step-backed (h .position) (r .0) (r .1) (r .2)))
-        (new-cases (bookOf tm) held e h m .1)
+        (λ n. let r = stepSet-member book held e (h .position) (h .disjunct) .0 n in rw (r .3) (step-backed (h .position) (r .0) (r .1) (r .2)))
+        (new-cases book held e h n .1)
 
-    none-free : Proper tm → leavesFree (bookOf tm) held e ≡ false
+    none-free : Proper tm → leavesFree book held e ≡ false
     unfolding leavesFree bookOf
-    none-free ok = none-pass _ _ λ q m. none-pass _ _ λ D n. go q D (mem-keep (endsAt (bookOf tm)) q (positions (bookOf tm)) .0 m .1) n _ refl
+    none-free ok = none-pass _ _ λ q i. none-pass _ _ λ D n. go q D (mem-keep (endsAt (bookOf tm)) q (positions (bookOf tm)) .0 i .1) n _ refl
       where
-        go : (q : ℕ) (D : Disjunct) → endsAt (bookOf tm) q ≡ true → List·Memᴰ D (sources (bookOf tm) held q)
+        go : (q : ℕ) (D : Disjunct) → endsAt (bookOf tm) q ≡ true → List·Memᴰ D (sources book held q)
             → (t : Bool) → meets D (constraintOf (symbolOf (bookOf tm) q) e) ≡ t → (t && any isFree (met D (constraintOf (symbolOf (bookOf tm) q) e))) ≡ false
         go q D ends m false k = refl
         go q D ends m true k = backed-closed ok ends (step-backed q D m k)
 
-  run-backed : (held : List Held) → AllBacked held → (cs : List Call) → AllBacked (run (newHeld (bookOf tm)) held cs)
-  run-backed held backed [] = backed
-  run-backed held backed (event e true ∷ cs) = run-backed (newHeld (bookOf tm) held e) (new-backed held backed e) cs
-  run-backed held backed (event e false ∷ cs) = run-backed held backed cs
+-- where fewer events may begin a match
+limited-backed : (tm : Tracematch) (may : Bool) (q : ℕ) → bit q (cond may (bookOf tm .begins) 0) ≡ true → Has q (Positions.beginning (tm .pattern) 1)
+unfolding bookOf
+limited-backed tm may q h = limited-begins may (bookOf tm .begins) q h .1
+
+-- no row of a proper tracematch leaves a variable free, in any run from nothing held, whichever events may begin a match
+pub none-left-free-by : (tm : Tracematch) → Proper tm → (may : ℕ → Bool) (n : ℕ) (cs : List Call) (here : Bool) (e : Event)
+    → leavesFree (limited here (bookOf tm)) (run (nextBy may (bookOf tm)) (freshAt n) cs .held) e ≡ false
+none-left-free-by tm ok may n cs here e =
+    none-free tm (cond here (bookOf tm .begins) 0) (limited-backed tm here) _
+    (kept-run (nextBy may (bookOf tm)) (λ s. AllBacked tm (s .held))
+    (λ s h f. new-backed tm (cond (may (suc (s .number))) (bookOf tm .begins) 0) (limited-backed tm (may (suc (s .number)))) (s .held) h f)
+    (freshAt n) (λ h m. absurd (List·Memᴰ·not-nil m)) cs)
+    e ok
 
 -- no row of a proper tracematch leaves a variable free, in any run
 pub none-left-free : (tm : Tracematch) → Proper tm → (cs : List Call) (e : Event) → leavesFree (bookOf tm) (heldAfter tm cs) e ≡ false
-none-left-free tm ok cs e = none-free tm (heldAfter tm cs) (run-backed tm [] (λ h m. absurd (List·Memᴰ·not-nil m)) cs) e ok
+none-left-free tm ok cs e = rw (← run-held (bookOf tm) fresh cs) (none-left-free-by tm ok (λ _. true) 0 cs true e)
 
 -- then the step sets of ending positions are closed
 pub closed : (b : Book) (held : List Held) (e : Event) → leavesFree b held e ≡ false → (q : ℕ) → List·Memᴰ q (positions b) → endsAt b q ≡ true

@@ -11,10 +11,11 @@ use borrow.Author.Tests.{lt-ltb, le-leb, eq-eqb, eqb-true}
 use Rattle.laws.specs.Bits.{bit}
 use Rattle.laws.specs.Lists.{all, gather, numbers}
 use Rattle.laws.specs.Order.{andThen, ascending}
-use Rattle.laws.proofs.Lists.{and-true-split, and-swap, all-at, all-getD, all-of, all-map, mem-map, mem-gather, mem-numbers, length-numbers}
+use Rattle.laws.proofs.Lists.{and-true-split, and-swap, either, all-at, all-getD, all-of, all-map, mem-map, mem-gather, mem-numbers, length-numbers}
 use Rattle.laws.proofs.Maps.{all-replicate}
 use Rattle.laws.proofs.Order.{compare-order, lt-compare}
 use Rattle.laws.proofs.Sets.{all-insert, insert-ascending, append-ascending, map-ascending}
+use Rattle.runs.proofs.Runs.{kept-along}
 use Rattle.pattern.specs.Regex.{Regex, In, nullable}
 use Rattle.pattern.specs.Positions as Positions
 use Rattle.pattern.proofs.Masks.{beginning-among, ending-among, following-among, beginning-below, ending-below, following-below}
@@ -30,12 +31,13 @@ use Rattle.meaning.specs.Labels.{sources, stepSet, skipSet, newLabel, newHeld, 
 use Rattle.meaning.specs.Room.{fewExclusions, setRoom, skipRoom, room}
 use Rattle.meaning.specs.Rows.{leavesFree}
 use Rattle.meaning.specs.Sound.{soundEntry, soundPiece, soundHeld, eventLimit, soundState}
-use Rattle.meaning.specs.Runs.{Call, event, traceOf, run, stateAfter, heldAfter, OrderlyFrom, finished, accepts, refuses, Orderly}
+use Rattle.meaning.specs.Runs.{Call, sentEvent, wasTaken, traceOf, run, stateAfter, heldAfter, Admissible, OrderlyFrom, Orderly}
 use Rattle.automaton.proofs.Orders.{held-order}
 use Rattle.automaton.proofs.Fits.{met-length, skip-length}
 use Rattle.automaton.proofs.Members.{stepSet-member, newLabel-ascending}
 use Rattle.automaton.proofs.NoRoom.{room-parts}
 use Rattle.automaton.proofs.Stems.{asked, label-held, skip-cases, skip-kept, source-cases, new-cases}
+use Rattle.automaton.proofs.Plain.{run-state}
 use Rattle.automaton.proofs.Bound.{none-left-free}
 
 pub fresh-sound : (b : Book) → soundHeld b [] ≡ true
@@ -243,23 +245,26 @@ proper-sound tm ok = let r = tm .pattern in rw (
   not-nullable r (ok .nonempty),
 )
 
-run-state : (b : Book) (s : State) (cs : List Call) (n : ℕ) → n ≡ s .number + length (traceOf cs)
-    → run (next b) s cs ≡ record { number = n; held = run (newHeld b) (s .held) cs }
-run-state b s [] n h = let e : n ≡ s .number = omega arith in rw e
-run-state b s (event e true ∷ cs) n h = run-state b (next b s e) cs n (omega arith)
-run-state b s (event e false ∷ cs) n h = run-state b s cs n h
-
 -- the state after a run: as many events as its trace has, and what is held
 pub state-after : (tm : Tracematch) (cs : List Call) → stateAfter tm cs ≡ record { number = length (traceOf cs); held = heldAfter tm cs }
-state-after tm cs = run-state (bookOf tm) fresh cs (length (traceOf cs)) (omega arith)
+state-after tm cs =
+    let none : 0 + length (traceOf cs) ≡ length (traceOf cs) = omega arith in
+    run-state (bookOf tm) fresh cs ∙ ap (λ n. record { number = n; held = heldAfter tm cs }) none
+
+-- an admissible event keeps the state sound
+pub admissible-sound : (b : Book) → soundBook b ≡ true → (s : State) → soundState b s ≡ true → (e : Event) → Admissible b s e
+    → soundState b (next b s e) ≡ true
+unfolding soundState
+admissible-sound b sb s h e a =
+    ap₂ _&&_ (le-leb _ _ (a .below)) (kept b sb (s .held) (and-true-split (leb (s .number) eventLimit) _ h .1) e (a .formed) (a .roomy))
 
 run-sound : (b : Book) → soundBook b ≡ true → {s : State} {cs : List Call} → soundState b s ≡ true → OrderlyFrom b s cs
     → soundState b (run (next b) s cs) ≡ true
-unfolding soundState
-run-sound b sb h finished = h
-run-sound b sb {s} h (accepts {e = e} w l r o) =
-    run-sound b sb (ap₂ _&&_ (le-leb _ _ l) (kept b sb (s .held) (and-true-split (leb (s .number) eventLimit) _ h .1) e w r)) o
-run-sound b sb h (refuses o) = run-sound b sb h o
+run-sound b sb h o = kept-along _ (λ s. soundState b s ≡ true) each h o
+  where
+    each : (s : State) → soundState b s ≡ true → (c : Call) → (wasTaken c ≡ true → Admissible b s (sentEvent c))
+        → soundState b (cond (wasTaken c) (next b s (sentEvent c)) s) ≡ true
+    each s h c a = either (λ z. soundState b z ≡ true) (wasTaken c) (λ t. admissible-sound b sb s h (sentEvent c) (a t)) (λ _. h)
 
 -- after every run that accepts only well-formed events for which there is room: nothing that answer 9 covers
 pub never-unsound : (tm : Tracematch) → Proper tm → (cs : List Call) → Orderly (bookOf tm) cs → (e : Event)

@@ -1,35 +1,27 @@
--- Law `reduced`: whether a valuation is a row depends only on the trace reduced to the events that concern it.
+-- Law `reduced`: whether a valuation is a row depends only on the trace reduced to the events that concern it; and `reduced-first`, of which it is
+-- a corollary: the first event of a match is told by how many events that concern the valuation come before it.
 use mathlib.Core.Path.{_≡_, refl, sym, ap, _∙_}
-use mathlib.Core.Bool.{Bool, true, false, cond}
-use mathlib.Core.List.{List, [], _∷_, List·Memᴰ}
-use Prim.Native.Nat.{ℕ, zero, suc, _+_, _-_, _≤_, _<_, suc-le-suc}
-use native.Mathlib.Nat.{not-suc-le-zero, le-of-suc-le-suc}
+use mathlib.Core.Bool.{Bool, true}
+use mathlib.Core.List.{List, List·Memᴰ}
+use Prim.Native.Nat.{ℕ, suc, _+_, _-_, _≤_}
 use native.Mathlib.Omega.{arith}
 use lib.ListN.{length, take, drop, getD, length-take, length-drop, take-append-drop}
-use lib.Seq.{drop-at, getD-drop, getD-take}
+use lib.Seq.{drop-at, getD-drop, getD-take, take-take}
 use Rattle.laws.specs.Lists.{keep}
 use Rattle.laws.proofs.Lists.{keep-append, mem-keep, mem-getD, mem-index}
+use Rattle.runs.proofs.Runs.{within-at}
+use Rattle.runs.proofs.Accepted.{passed-at}
 use Rattle.meaning.specs.Events.{Event, Valuation, concerns}
-use Rattle.meaning.specs.Meaning.{Tracematch, noEvent, concerning, stretch, Row}
+use Rattle.meaning.specs.Meaning.{Tracematch, noEvent, concerning, stretch, Match, Row}
 
-module _ {A : Type 0} (f : A → Bool) where
-  -- what passes of a suffix is a suffix of what passes
-  keep-drop : (k : ℕ) (l : List A) → keep f (drop k l) ≡ drop (length (keep f (take k l))) (keep f l)
-  keep-drop k l =
-      sym (drop-at (keep f (take k l)) (keep f (drop k l)) _ refl)
-      ∙ ap (drop (length (keep f (take k l)))) (sym (keep-append f (take k l) (drop k l)) ∙ ap (keep f) (take-append-drop k l))
+-- what passes of a suffix is a suffix of what passes
+keep-drop : {A : Type 0} (f : A → Bool) (k : ℕ) (l : List A) → keep f (drop k l) ≡ drop (length (keep f (take k l))) (keep f l)
+keep-drop f k l =
+    sym (drop-at (keep f (take k l)) (keep f (drop k l)) _ refl)
+    ∙ ap (drop (length (keep f (take k l)))) (sym (keep-append f (take k l) (drop k l)) ∙ ap (keep f) (take-append-drop k l))
 
-  -- and each suffix of what passes, but for the empty one, passes of a suffix that is not empty
-  drop-keep : (l : List A) (j : ℕ) → j < length (keep f l) → (k : ℕ) × (k < length l) × (keep f (drop k l) ≡ drop j (keep f l))
-  drop-keep [] j h = absurd (not-suc-le-zero h)
-  drop-keep (x ∷ l) j h = go (f x) refl (drop-keep l) j h
-    where
-      go : (b : Bool) → f x ≡ b → ((i : ℕ) → i < length (keep f l) → (k : ℕ) × (k < length l) × (keep f (drop k l) ≡ drop i (keep f l)))
-          → (i : ℕ) → i < length (cond b (x ∷ keep f l) (keep f l))
-          → (k : ℕ) × (k < suc (length l)) × (keep f (drop k (x ∷ l)) ≡ drop i (cond b (x ∷ keep f l) (keep f l)))
-      go true e ih zero h = (0, omega arith, ap (λ b. cond b (x ∷ keep f l) (keep f l)) e)
-      go true e ih (suc i) h = let r = ih i (le-of-suc-le-suc h) in (suc (r .0), suc-le-suc (r .1), r .2)
-      go false e ih i h = let r = ih i h in (suc (r .0), suc-le-suc (r .1), r .2)
+keep-dropped : {A : Type 0} (f : A → Bool) (k j : ℕ) (l : List A) → length (keep f (take k l)) ≡ j → keep f (drop k l) ≡ drop j (keep f l)
+keep-dropped f k j l e = keep-drop f k l ∙ ap (λ i. drop i (keep f l)) e
 
 -- event number n stands in each stretch that ends with it
 last-of : (t : List Event) (first n : ℕ) → 1 ≤ first → first ≤ n → n ≤ length t → List·Memᴰ (getD t (n - 1) noEvent) (stretch t first n)
@@ -39,28 +31,48 @@ last-of t first n low mid high =
     let same : getD s (n - first) noEvent ≡ getD t (n - 1) noEvent = rw (getD-drop, place) (getD-take n t (n - 1) noEvent (omega arith)) in
     rw same at (mem-getD s (n - first) noEvent (simp (length-drop, length-take) (omega arith)))
 
+module _ (tm : Tracematch) (σ : Valuation) where
+  -- how many of the first n events concern σ
+  abbrev pub concernedIn : List Event → ℕ → ℕ
+  concernedIn t n = length (concerning tm σ (take n t))
+
+  -- A match of one trace is one of every trace that is reduced alike. Its first event concerns σ, and as many events that concern σ come before it.
+  pub reduced-first : (t u : List Event) (n m : ℕ) → 1 ≤ m → m ≤ length u → concerning tm σ (take n t) ≡ concerning tm σ (take m u)
+      → (first : ℕ) → Match tm t first n σ → concerns (tm .symbols) (getD t (n - 1) noEvent) σ ≡ true
+      → (other : ℕ) × Match tm u other m σ × (concerns (tm .symbols) (getD u (other - 1) noEvent) σ ≡ true)
+      × (concernedIn u (other - 1) ≡ concernedIn t (first - 1))
+  reduced-first t u n m low high same first a c =
+      let f : Event → Bool = λ e. concerns (tm .symbols) e σ in
+      let j : ℕ = length (keep f (take (first - 1) (take n t))) in
+      let from : concerning tm σ (stretch t first n) ≡ drop j (concerning tm σ (take m u)) = keep-drop f (first - 1) (take n t) ∙ ap (drop j) same in
+      let some = mem-index noEvent (mem-keep f _ _ .1 (last-of t first n (a .from) (a .upto) (a .inside), c)) in
+      let (x, w) = within-at (keep f (take m u)) j (omega (arith, some .1, ap length from, length-drop j (concerning tm σ (take m u)))) in
+      let p = passed-at f (take m u) j x w in
+      let k : ℕ = p .place in
+      let one : suc k - 1 ≡ k = omega arith in
+      let inside : suc k ≤ m = omega (arith, p .there .inside, length-take m u) in
+      let there : keep f (drop k (take m u)) ≡ drop j (keep f (take m u)) = keep-dropped f k j (take m u) (p .before) in (
+        suc k,
+        record {
+          from = omega arith;
+          upto = inside;
+          inside = high;
+          word = a .word;
+          reading = rw (one, there, ← from) (a .reading);
+          spoken = a .spoken;
+        },
+        rw (one, ← getD-take m u k noEvent inside, p .there .at noEvent) (p .passes),
+        rw (one, ← take-take k m u (omega arith), p .before, ← take-take (first - 1) n t (omega (arith, a .upto))) refl,
+      )
+
+  pub reduced-match : (t : List Event) (n first : ℕ) → Match tm t first n σ → concerns (tm .symbols) (getD t (n - 1) noEvent) σ ≡ true
+      → (other : ℕ) × Match tm t other n σ × (concerns (tm .symbols) (getD t (other - 1) noEvent) σ ≡ true)
+  reduced-match t n first a c =
+      let (g, m, d, _) = reduced-first t t n n (omega (arith, a .from, a .upto)) (a .inside) refl first a c in (g, m, d)
+
 pub reduced : (tm : Tracematch) (σ : Valuation) (t u : List Event) (n m : ℕ)
     → 1 ≤ m → m ≤ length u → concerns (tm .symbols) (getD u (m - 1) noEvent) σ ≡ true
     → concerning tm σ (take n t) ≡ concerning tm σ (take m u) → Row tm t n σ → Row tm u m σ
 reduced tm σ t u n m low high c same r =
-    let f : Event → Bool = λ e. concerns (tm .symbols) e σ in
-    let a = r .match in
-    let j : ℕ = length (keep f (take (r .first - 1) (take n t))) in
-    let from : concerning tm σ (stretch t (r .first) n) ≡ drop j (concerning tm σ (take m u)) =
-    keep-drop f (r .first - 1) (take n t) ∙ ap (drop j) same in
-    let some = mem-index noEvent (mem-keep f _ _ .1 (last-of t (r .first) n (a .from) (a .upto) (a .inside), r .concerned)) in
-    let k = drop-keep f (take m u) j (omega (arith, some .1, ap length from, length-drop j (concerning tm σ (take m u)))) in
-    let one : suc (k .0) - 1 ≡ k .0 = omega arith in
-    record {
-      valuation = r .valuation;
-      concerned = c;
-      first = suc (k .0);
-      match = record {
-        from = omega arith;
-        upto = omega (arith, k .1, length-take m u);
-        inside = high;
-        word = a .word;
-        reading = rw (one, k .2, ← from) (a .reading);
-        spoken = a .spoken;
-      };
-    }
+    let (g, a, _, _) = reduced-first tm σ t u n m low high same (r .first) (r .match) (r .concerned) in
+    record { valuation = r .valuation; concerned = c; first = g; match = a }

@@ -6,13 +6,14 @@ use mathlib.Core.List.{List·Memᴰ, List·Memᴰ·head, List·Memᴰ·tail, Lis
 use mathlib.Core.List.{Memᴰ·append-left, Memᴰ·append-right}
 use mathlib.Core.Logic.{_↔_, _⊎_, inl, inr, ⊎-elim, dite}
 use Prim.Native.Nat.{ℕ, zero, suc, _+_, _*_, _-_, _≤_, _<_, suc-le-suc}
-use native.Mathlib.Nat.{not-suc-le-zero, le-of-suc-le-suc}
+use native.Mathlib.Nat.{not-suc-le-zero, le-of-suc-le-suc, eq-or-lt-of-le}
 use native.Mathlib.Decide.{ℕ-discrete}
 use native.Mathlib.Numerals.{add-one}
 use native.Mathlib.Omega.{arith}
 use lib.ListN.{length, take, drop, getD, length-append, length-reverse, length-take, length-drop, take-append-drop, drop-of-length-le}
+use lib.ListN.{List·getD-append}
 use lib.Dec.{eqb}
-use lib.Seq.{take-at, drop-cons, getD-take, length-take-le}
+use lib.Seq.{take-at, drop-cons, getD-take, getD-append-seam, length-take-le}
 use borrow.Author.Tests.{eqb-true, eq-eqb}
 use Rattle.laws.specs.Lists.{any, all, keep, gather, numbers}
 
@@ -283,6 +284,22 @@ module _ {A : Type 0} where
       let n : ℕ = length l - k in
       ap (λ r. take k (reverse r)) (sym (take-append-drop n l)) ∙ ap (take k) (reverse-append (take n l) (drop n l))
       ∙ take-at (reverse (drop n l)) (reverse (take n l)) k (simp (length-reverse, length-drop) (omega arith))
+
+  pub getD-reverse : (l : List A) (i : ℕ) (d : A) → i < length l → getD (reverse l) i d ≡ getD l (length l - 1 - i) d
+  getD-reverse [] i d h = absurd (omega arith)
+  getD-reverse (x ∷ l) i d h =
+      ap (λ r. getD r i d) (reverse-cons x l)
+      ∙ ⊎-elim last (λ k. inner k (getD-reverse l i d k)) (eq-or-lt-of-le (le-of-suc-le-suc h))
+    where
+      last : i ≡ length l → getD (reverse l ++ (x ∷ [])) i d ≡ getD (x ∷ l) (length (x ∷ l) - 1 - i) d
+      last e =
+          let none : length (x ∷ l) - 1 - i ≡ 0 = omega arith in
+          rw (none, e, ← length-reverse l) (getD-append-seam (reverse l) x [] d)
+
+      inner : i < length l → getD (reverse l) i d ≡ getD l (length l - 1 - i) d → getD (reverse l ++ (x ∷ [])) i d ≡ getD (x ∷ l) (length (x ∷ l) - 1 - i) d
+      inner k ih =
+          let more : length (x ∷ l) - 1 - i ≡ suc (length l - 1 - i) = omega arith in
+          List·getD-append (reverse l) (x ∷ []) d i (omega (arith, length-reverse l)) ∙ ih ∙ ap (λ j. getD (x ∷ l) j d) (sym more)
 
   pub map-reverse : {B : Type 0} (g : A → B) (l : List A) → map g (reverse l) ≡ reverse (map g l)
   map-reverse g [] = refl

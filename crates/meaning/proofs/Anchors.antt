@@ -22,7 +22,8 @@ use Rattle.meaning.specs.Labels.{bound, free, Disjunct, Held, valueKey, 
 use Rattle.meaning.specs.Labels.{skipBy, sources, stepSet, skipSet, newLabel, newHeld}
 use Rattle.meaning.specs.Room.{setRoom, room}
 use Rattle.meaning.specs.Rows.{rows, compareValuations, valueOf}
-use Rattle.meaning.specs.Runs.{Call, heldAfter, Pairing, Dependent, Ordered}
+use Rattle.runs.specs.Pairs.{Pairing}
+use Rattle.meaning.specs.Runs.{Call, heldAfter, Dependent, Ordered}
 use Rattle.meaning.specs.Starred.{Case, Answer, answers, table, onTheWay, unnamedOnTheWay, partial, partialCalls, partialHeld}
 use Rattle.meaning.specs.Starred.{mixed, mixedCalls, mixedHeld, thrice, thriceCalls, thriceHeld}
 

@@ -5,7 +5,7 @@ use mathlib.Core.List.{List, [], _∷_, _++_, map, List·Memᴰ, List·Memᴰ·h
 use Prim.Native.Nat.{ℕ, zero, suc, _<_, suc-le-suc}
 use native.Mathlib.Nat.{not-suc-le-zero, le-of-suc-le-suc}
 use native.Mathlib.Omega.{arith}
-use lib.ListN.{length, take}
+use lib.ListN.{length, take, getD, length-map}
 use Rattle.laws.proofs.Lists.{mem-getD}
 use Rattle.runs.specs.Runs.{Machine, resultsFrom, stateFrom, Along, ended, called, behindTrace, Within}
 
@@ -35,6 +35,14 @@ within-at (x ∷ l) (suc i) h = let (y, w) = within-at l i (le-of-suc-le-suc h) 
 
 pub within-one : {A : Type 0} {l : List A} {i : ℕ} {x y : A} → Within l i x → Within l i y → x ≡ y
 within-one {x = x} v w = sym (v .at x) ∙ w .at x
+
+pub within-map : {A B : Type 0} (f : A → B) {l : List A} {i : ℕ} {x : A} → Within l i x → Within (map f l) i (f x)
+within-map {A} {B} f {l} {i} {x} w = record { inside = rw length-map (w .inside); at = go l i (w .inside) (w .at) }
+  where
+    go : (l : List A) (i : ℕ) → i < length l → ((d : A) → getD l i d ≡ x) → (d : B) → getD (map f l) i d ≡ f x
+    go [] i h e d = absurd (not-suc-le-zero h)
+    go (y ∷ l) zero h e d = ap f (e y)
+    go (y ∷ l) (suc i) h e d = go l i (le-of-suc-le-suc h) e d
 
 pub within-mem : {A : Type 0} {l : List A} {i : ℕ} {x : A} → Within l i x → List·Memᴰ x l
 within-mem {l = l} {i = i} {x = x} w = rw (w .at x) at (mem-getD l i x (w .inside))
