@@ -23,13 +23,13 @@ use Rattle.meaning.specs.Events.{matches, demandsOf, consistent, constraintOf}
 use Rattle.meaning.specs.Meaning.{Tracematch, noSymbol}
 use Rattle.meaning.specs.Book.{Book, bookOf, startingAt, Proper, binds, positions, endsAt, followsAt, symbolOf}
 use Rattle.meaning.specs.Labels.{Entry, bound, free, Disjunct, entryOf, isFree, bind, metAll, meets, met}
-use Rattle.meaning.specs.Labels.{excluding, skipOne, Held, sources, stepSet, skipSet, newHeld, freshAt, fresh}
+use Rattle.meaning.specs.Labels.{excluding, skipOne, Held, sources, stepSet, skipSet, newHeld, freshAt}
 use Rattle.meaning.specs.Rows.{leavesFree}
 use Rattle.meaning.specs.Runs.{Call, run, heldAfter}
 use Rattle.automaton.proofs.Fits.{met-length}
 use Rattle.automaton.proofs.Members.{stepSet-member}
 use Rattle.automaton.proofs.Stems.{skip-cases, label-held, skip-kept, source-cases, new-cases}
-use Rattle.automaton.proofs.Plain.{kept-run, run-held}
+use Rattle.automaton.proofs.Plain.{kept-run}
 use Rattle.automaton.proofs.Automaton.{limited, limited-begins, nextBy}
 
 none-pass : {A : Type 0} (f : A → Bool) (l : List A) → ((x : A) → List·Memᴰ x l → f x ≡ false) → any f l ≡ false
@@ -40,7 +40,7 @@ any-reverse f [] = refl
 any-reverse f (x ∷ l) = rw (reverse-cons x l, any-append, any-reverse f l, or-false (f x)) (or-comm (any f l) (f x))
 
 -- variable v has a value
-abbrev hasValue : Disjunct → ℕ → Type 0
+abbrev pub hasValue : Disjunct → ℕ → Type 0
 hasValue D v = isFree (entryOf D v) ≡ false
 
 -- meeting binds the variable of a demand, and keeps what is bound
@@ -105,11 +105,11 @@ same-value D E e v k = sym (List·getD-map isFree E v (free [])) ∙ ap (λ l. g
 
 module _ (tm : Tracematch) where
   -- some symbol of the word binds v
-  abbrev bindsIn : ℕ → List ℕ → Bool
+  abbrev pub bindsIn : ℕ → List ℕ → Bool
   bindsIn v w = any (λ a. any (binds v) (getD (tm .symbols) a noSymbol .parameters)) w
 
   -- a path to position p whose symbols' variables have values in D
-  record Backed (p : ℕ) (D : Disjunct) : Type 0 where
+  pub record Backed (p : ℕ) (D : Disjunct) : Type 0 where
     pub wide : length D ≡ tm .variables
     pub word : List ℕ
     pub path : Reach (tm .pattern) word p
@@ -127,7 +127,7 @@ module _ (tm : Tracematch) where
       sym (ap isFree (i .2)) ∙ o .binding (i .0) h (sym (any-reverse _ (o .word)) ∙ ok .binding (i .0) h _ (spoken (o .path) ends))
 
   -- every held disjunct has one
-  abbrev AllBacked : List Held → Type 0
+  abbrev pub AllBacked : List Held → Type 0
   AllBacked held = (h : Held) → List·Memᴰ h held → Backed (h .position) (h .disjunct)
 
   reach-among : {w : List ℕ} {p : ℕ} → Reach (tm .pattern) w p → Among (tm .pattern) 1 p
@@ -212,9 +212,20 @@ none-left-free-by tm ok may n cs here e =
     (freshAt n) (λ h m. absurd (List·Memᴰ·not-nil m)) cs)
     e ok
 
+-- the same of the book itself, event by event, from nothing held
+pub backed-none : (tm : Tracematch) → AllBacked tm []
+backed-none tm h m = absurd (List·Memᴰ·not-nil m)
+
+pub backed-next : (tm : Tracematch) (held : List Held) → AllBacked tm held → (e : Event) → AllBacked tm (newHeld (bookOf tm) held e)
+backed-next tm held h e = new-backed tm (bookOf tm .begins) (limited-backed tm true) held h e
+
+pub backed-free : (tm : Tracematch) → Proper tm → (held : List Held) → AllBacked tm held → (e : Event) → leavesFree (bookOf tm) held e ≡ false
+backed-free tm ok held h e = none-free tm (bookOf tm .begins) (limited-backed tm true) held h e ok
+
 -- no row of a proper tracematch leaves a variable free, in any run
 pub none-left-free : (tm : Tracematch) → Proper tm → (cs : List Call) (e : Event) → leavesFree (bookOf tm) (heldAfter tm cs) e ≡ false
-none-left-free tm ok cs e = rw (← run-held (bookOf tm) fresh cs) (none-left-free-by tm ok (λ _. true) 0 cs true e)
+none-left-free tm ok cs e =
+    backed-free tm ok (heldAfter tm cs) (kept-run (newHeld (bookOf tm)) (AllBacked tm) (backed-next tm) [] (backed-none tm) cs) e
 
 -- then the step sets of ending positions are closed
 pub closed : (b : Book) (held : List Held) (e : Event) → leavesFree b held e ≡ false → (q : ℕ) → List·Memᴰ q (positions b) → endsAt b q ≡ true

@@ -10,7 +10,8 @@ use Rattle.form.specs.Text.{Bytes, Declarations, tracematchOf}
 use Rattle.form.specs.Form.{Form}
 use Rattle.book.specs.Books.{reading}
 use Rattle.calls.specs.Answers.{numberOf}
-use Rattle.calls.specs.Runs.{Call, Made, allBytes, runOf, acceptedIn, recordsOf, traceOf, Within, Delivered, Judged, Partners, InOrder, Crossed}
+use Rattle.runs.specs.Runs.{Within}
+use Rattle.calls.specs.Runs.{Call, Made, allBytes, runOf, acceptedIn, recordsOf, traceOf, Delivered, Judged, Partners, InOrder, Crossed}
 
 -- a run over the book that was read of the text
 abbrev pub runOver : Bytes → List Call → List Made

@@ -1,19 +1,22 @@
--- Runs of event calls over one book from the fresh state, and what demands 2 and 3 say of them: document 01, "Crossed messages".
--- The theorems are in the crate demands.
+-- Runs of event calls over one book from the fresh state, an instance of the runs of any machine (crate runs), and what demands 2 and 3 say of
+-- them: document 01, "Crossed messages". The theorems are in the crate demands.
 use mathlib.Core.Path.{_≡_}
 use mathlib.Core.Bool.{Bool, true, false}
 use mathlib.Core.List.{List, [], _∷_, _++_, map}
 use Prim.Native.Nat.{ℕ, suc, _+_, _-_, _*_, _≤_, _<_}
 use lib.ListN.{length, take, drop, getD}
+use Rattle.laws.specs.Checks.{FirstToFail}
 use Rattle.laws.specs.Lists.{all, keep, gather}
 use Rattle.laws.specs.Parts.{splice}
+use Rattle.runs.specs.Runs.{Machine, resultsFrom, traceBy, behindTrace, Within}
+use Rattle.runs.specs.Pairs.{Pairing}
 use Rattle.meaning.specs.Events.{Event, Valuation}
 use Rattle.meaning.specs.Meaning.{Tracematch}
 use Rattle.meaning.specs.Book.{bookOf}
 use Rattle.meaning.specs.Labels.{Held, newHeld}
 use Rattle.meaning.specs.Room.{Broken}
 use Rattle.meaning.specs.Sound.{eventLimit}
-use Rattle.meaning.specs.Runs.{Listed, Pairing, Ordered}
+use Rattle.meaning.specs.Runs.{Listed, Ordered}
 use Rattle.form.specs.Text.{Bytes, isBytes}
 use Rattle.record.specs.Records.{isRecord, eventIn}
 use Rattle.book.specs.declared.Book.{Book}
@@ -21,7 +24,10 @@ use Rattle.state.specs.declared.State.{State}
 use Rattle.row.specs.RowBytes.{rowSize, numberSize, rowBytes}
 use Rattle.tally.specs.declared.Tally.{Tally}
 use Rattle.tally.specs.Tallies.{tallied}
+use Rattle.calls.specs.Answers.{numberOf}
 use Rattle.calls.specs.Calls.{isAccepted, taken, bufferAfter, freshState}
+use Rattle.calls.specs.declared.EventAnswer.{EventAnswer}
+use Rattle.calls.specs.declared.EventAnswer.the-variants.{Accepted, Unsound, OutOfForm, TooMany, NoRoom, NoSpace}
 use Rattle.calls.specs.declared.Taken.{Taken}
 
 -- what the caller lends at one call: "Record, row buffer, start place and tally are whatever the caller lends at that call"
@@ -51,17 +57,21 @@ pub record Made : Type 0 where
 
 -- the call in a state
 unfoldable pub make : Book → State → Call → Made
-make b s (event l) =
+make b s c =
+    let l = lentAt c in
     record {
       lent = l;
       taken = taken b s (l .bytes) (l .buffer) (l .place) (l .tally);
       buffer = bufferAfter b s (l .bytes) (l .buffer) (l .place);
     }
 
+-- the watch over one book as a machine: what a call hands back has the state in it that the next one gets
+abbrev pub watching : Book → Machine State Call Made
+watching b = record { gives = make b; leaves = λ m. m .taken .state }
+
 -- "Each call gets the state that the call before it returned or left (after a refusal, the same one)."
 abbrev pub runFrom : Book → State → List Call → List Made
-runFrom b s [] = []
-runFrom b s (c ∷ cs) = let m = make b s c in m ∷ runFrom b (m .taken .state) cs
+runFrom b s cs = resultsFrom (watching b) s cs
 
 -- "A run is a list of event calls with one read book …, from the fresh state."
 abbrev pub runOf : Book → List Call → List Made
@@ -77,14 +87,10 @@ acceptedIn ms = keep wasAccepted ms
 
 -- "the accepted ones in order are the run's trace": their records, and the events that these hold
 abbrev pub recordsOf : List Made → List Bytes
-recordsOf ms = map (λ m. m .lent .bytes) (acceptedIn ms)
+recordsOf ms = traceBy wasAccepted (λ m. m .lent .bytes) ms
 
 abbrev pub traceOf : List Made → List Event
 traceOf ms = map eventIn (recordsOf ms)
-
--- m is element number i of the list, from 0; d is a default that is never used
-abbrev pub Within : List Made → ℕ → Made → Type 0
-Within ms i m = (i < length ms) × ((d : Made) → getD ms i d ≡ m)
 
 -- Demand 2 for one accepted call, the n-th of the trace t: its rows are "once each and in order, the valuations" of the declarative
 -- meaning, each with the event's number, in the lent buffer from the lent place on; all else in the buffer is as lent; one accepted
@@ -99,12 +105,8 @@ pub record Delivered (tm : Tracematch) (t : List Event) (n : ℕ) (m : Made) : T
   pub numbered : m .taken .state .number ≡ n
 
 -- what the labels hold after the events of a trace
-abbrev pub heldFrom : Tracematch → List Held → List Event → List Held
-heldFrom tm h [] = h
-heldFrom tm h (e ∷ es) = heldFrom tm (newHeld (bookOf tm) h e) es
-
 abbrev pub heldAfter : Tracematch → List Event → List Held
-heldAfter tm t = heldFrom tm [] t
+heldAfter tm t = behindTrace (newHeld (bookOf tm)) [] t
 
 -- "row buffer too short, or start place beyond it": the rows of the event that follows the trace t do not fit from the place on
 pub data TooShort (tm : Tracematch) (t : List Event) (e : Event) (buffer : Bytes) (place : ℕ) : Type 0 where
@@ -112,15 +114,27 @@ pub data TooShort (tm : Tracematch) (t : List Event) (e : Event) (buffer : Bytes
   over : (l : List Valuation) → Listed tm (t ++ (e ∷ [])) (suc (length t)) l → place ≤ length buffer → length buffer - place < rowSize * length l
       → TooShort tm t e buffer place
 
--- the number of the answer to a call after the trace t of a read book: "Events: 9 to 13 in that order", and never 9
-pub data Judged (tm : Tracematch) (t : List Event) (l : Lent) : ℕ → Type 0 where
-  outOfForm : isRecord (l .bytes) ≡ false → Judged tm t l 10
-  tooMany : isRecord (l .bytes) ≡ true → length t ≡ eventLimit → Judged tm t l 11
-  noRoom : isRecord (l .bytes) ≡ true → length t < eventLimit → Broken (bookOf tm) (heldAfter tm t) (eventIn (l .bytes)) → Judged tm t l 12
-  noSpace : isRecord (l .bytes) ≡ true → length t < eventLimit → (Broken (bookOf tm) (heldAfter tm t) (eventIn (l .bytes)) → ⊥)
-      → TooShort tm t (eventIn (l .bytes)) (l .buffer) (l .place) → Judged tm t l 13
-  accepted : isRecord (l .bytes) ≡ true → length t < eventLimit → (Broken (bookOf tm) (heldAfter tm t) (eventIn (l .bytes)) → ⊥)
-      → (TooShort tm t (eventIn (l .bytes)) (l .buffer) (l .place) → ⊥) → Judged tm t l 0
+-- The checks of a call after the trace t of a read book, each by its answer: when it fails, and when it passes.
+module _ (tm : Tracematch) (t : List Event) (l : Lent) where
+  abbrev pub FailsAfter : EventAnswer → Type 0
+  FailsAfter Accepted = ⊥
+  FailsAfter Unsound = ⊥
+  FailsAfter OutOfForm = isRecord (l .bytes) ≡ false
+  FailsAfter TooMany = length t ≡ eventLimit
+  FailsAfter NoRoom = Broken (bookOf tm) (heldAfter tm t) (eventIn (l .bytes))
+  FailsAfter NoSpace = TooShort tm t (eventIn (l .bytes)) (l .buffer) (l .place)
+
+  abbrev pub PassesAfter : EventAnswer → Type 0
+  PassesAfter Accepted = FailsAfter Accepted → ⊥
+  PassesAfter Unsound = FailsAfter Unsound → ⊥
+  PassesAfter OutOfForm = isRecord (l .bytes) ≡ true
+  PassesAfter TooMany = length t < eventLimit
+  PassesAfter NoRoom = FailsAfter NoRoom → ⊥
+  PassesAfter NoSpace = FailsAfter NoSpace → ⊥
+
+  -- n is the number of the answer: "Events: 9 to 13 in that order", and never 9
+  pub record Judged (n : ℕ) : Type 0 where
+    pub first : FirstToFail FailsAfter PassesAfter numberOf 0 (OutOfForm ∷ TooMany ∷ NoRoom ∷ NoSpace ∷ []) n
 
 -- "Partners are accepted events with the same 20 bytes, one in each run; each accepted event has exactly one partner." Records of
 -- the accepted calls, counted from 0.

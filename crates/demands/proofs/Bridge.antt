@@ -1,14 +1,16 @@
--- From event calls over structs and bytes to plain runs: the book of a read text is that of its tracematch, and each call of a run
--- meets a state that a plain run reaches, where it is decided by the definitions of the crate meaning. For Listed, Answered, Crossed.
-use mathlib.Core.Path.{_≡_, refl, sym, ap, ap₂, _∙_}
+-- From event calls over structs and bytes to plain states: the book of a read text is that of its tracematch, and a call in the struct of a
+-- steady plain state is decided by the definitions of the crate meaning. For Course.
+use mathlib.Core.Path.{_≡_, refl, ap, ap₂}
 use mathlib.Core.Bool.{true, false, _&&_, and-eq-true-iff, and-true, and-false}
-use mathlib.Core.List.{List, [], _∷_, _++_, map}
+use mathlib.Core.List.{List, [], _∷_, map, List·Memᴰ, List·Memᴰ·head, List·Memᴰ·tail}
 use Prim.Native.Nat.{ℕ, _+_, _*_, _≤_, _<_}
 use native.Mathlib.Omega.{arith}
 use borrow.Author.Tests.{leb-true, le-leb}
 use lib.Dec.{leb}
 use lib.ListN.{length, take}
+use Rattle.laws.specs.Checks.{FirstToFail}
 use Rattle.laws.specs.Lists.{all}
+use Rattle.laws.proofs.Checks.{first-passed}
 use Rattle.laws.proofs.Lists.{all-map, all-at, all-of}
 use Rattle.pattern.specs.Regex.{Regex}
 use Rattle.pattern.specs.Positions as Positions
@@ -16,13 +18,13 @@ use Rattle.meaning.specs.Events as Events
 use Rattle.meaning.specs.Events.{Event, wellFormed}
 use Rattle.meaning.specs.Meaning.{Tracematch}
 use Rattle.meaning.specs.Book.{bookOf, Proper, soundSymbol}
-use Rattle.meaning.specs.Labels.{State, fresh, next}
+use Rattle.meaning.specs.Labels.{State, freshAt, next}
 use Rattle.meaning.specs.Room.{room}
 use Rattle.meaning.specs.Rows.{rows}
 use Rattle.meaning.specs.Sound.{soundState, soundHeld, eventLimit}
 use Rattle.meaning.specs.Runs as Runs
-use Rattle.automaton.proofs.Kept.{kept, proper-sound, state-after}
-use Rattle.automaton.proofs.Bound.{none-left-free}
+use Rattle.automaton.proofs.Kept.{proper-sound, admissible-sound}
+use Rattle.automaton.proofs.Bound.{AllBacked, backed-none, backed-next, backed-free}
 use Rattle.form.specs.Text.{Bytes, Declarations, tracematchOf}
 use Rattle.form.specs.Limits.{textLimit}
 use Rattle.form.specs.Form.{Form}
@@ -38,10 +40,10 @@ use Rattle.state.proofs.States.{view-state}
 use Rattle.sound.specs.Soundness.{symbolCounts, namePlaced, bookCounts, bookSound, stateSound}
 use Rattle.row.specs.RowBytes.{rowSize}
 use Rattle.calls.specs.declared.EventAnswer.{EventAnswer}
-use Rattle.calls.specs.declared.EventAnswer.the-variants.{Accepted, OutOfForm, TooMany, NoRoom, NoSpace}
+use Rattle.calls.specs.declared.EventAnswer.the-variants.{Accepted, Unsound, OutOfForm, TooMany, NoRoom, NoSpace}
 use Rattle.calls.specs.Runs.{Lent, Made, wasAccepted}
-use Rattle.calls.specs.Calls.{unsound, leavesFreeBy, rowsBy, stateBy, roomBy}
-use Rattle.demands.proofs.States.{taken-back, held-sound, few-held, lengths, counts}
+use Rattle.calls.specs.Calls.{isAccepted, unsound, leavesFreeBy, rowsBy, stateBy, roomBy}
+use Rattle.demands.proofs.States.{taken-back, few-held, lengths, counts}
 
 -- a struct that holds the book of a tracematch, as a reading hands it back
 pub record Read (b : Book) (tm : Tracematch) : Type 0 where
@@ -100,47 +102,70 @@ plainCall m = Runs.event (eventIn (m .lent .bytes)) (wasAccepted m)
 abbrev pub plain : List Made → List Runs.Call
 plain ms = map plainCall ms
 
--- the answer to a call in a plain state, by the definitions of the crate meaning
-pub data Decision (tm : Tracematch) (s : State) (l : Lent) : EventAnswer → Type 0 where
-  outOfForm : isRecord (l .bytes) ≡ false → Decision tm s l OutOfForm
-  tooMany : isRecord (l .bytes) ≡ true → s .number ≡ eventLimit → Decision tm s l TooMany
-  noRoom : isRecord (l .bytes) ≡ true → s .number < eventLimit → room (bookOf tm) (s .held) (eventIn (l .bytes)) ≡ false → Decision tm s l NoRoom
-  noSpace : isRecord (l .bytes) ≡ true → s .number < eventLimit → room (bookOf tm) (s .held) (eventIn (l .bytes)) ≡ true
-      → length (l .buffer) < l .place + rowSize * length (rows (bookOf tm) (s .held) (eventIn (l .bytes))) → Decision tm s l NoSpace
-  accepted : isRecord (l .bytes) ≡ true → s .number < eventLimit → room (bookOf tm) (s .held) (eventIn (l .bytes)) ≡ true
-      → l .place + rowSize * length (rows (bookOf tm) (s .held) (eventIn (l .bytes))) ≤ length (l .buffer) → Decision tm s l Accepted
+-- The checks of a call in a plain state, by the definitions of the crate meaning, each by its answer: when it fails, and when it passes.
+module _ (tm : Tracematch) (s : State) (l : Lent) where
+  -- where the rows would end
+  abbrev size : ℕ
+  size = l .place + rowSize * length (rows (bookOf tm) (s .held) (eventIn (l .bytes)))
 
--- a plain state that calls reach from the fresh one
-pub record Reached (tm : Tracematch) (s : State) : Type 0 where
-  pub before : List Runs.Call
-  pub at : s ≡ Runs.stateAfter tm before
+  abbrev pub FailsIn : EventAnswer → Type 0
+  FailsIn Accepted = ⊥
+  FailsIn Unsound = ⊥
+  FailsIn OutOfForm = isRecord (l .bytes) ≡ false
+  FailsIn TooMany = s .number ≡ eventLimit
+  FailsIn NoRoom = room (bookOf tm) (s .held) (eventIn (l .bytes)) ≡ false
+  FailsIn NoSpace = length (l .buffer) < size
+
+  abbrev pub PassesIn : EventAnswer → Type 0
+  PassesIn Accepted = ⊥ → ⊥
+  PassesIn Unsound = ⊥ → ⊥
+  PassesIn OutOfForm = isRecord (l .bytes) ≡ true
+  PassesIn TooMany = s .number < eventLimit
+  PassesIn NoRoom = room (bookOf tm) (s .held) (eventIn (l .bytes)) ≡ true
+  PassesIn NoSpace = size ≤ length (l .buffer)
+
+  -- the answer to the call
+  pub record Decision (a : EventAnswer) : Type 0 where
+    pub first : FirstToFail FailsIn PassesIn (λ x. x) Accepted (OutOfForm ∷ TooMany ∷ NoRoom ∷ NoSpace ∷ []) a
+
+  -- what acceptance says: all of them pass
+  pub all-pass : {a : EventAnswer} → Decision a → isAccepted a ≡ true → (k : EventAnswer)
+      → List·Memᴰ k (OutOfForm ∷ TooMany ∷ NoRoom ∷ NoSpace ∷ []) → PassesIn k
+  all-pass d h = first-passed isAccepted (d .first) refl h
+
+  pub in-form : {a : EventAnswer} → Decision a → isAccepted a ≡ true → isRecord (l .bytes) ≡ true
+  in-form d h = all-pass d h OutOfForm (List·Memᴰ·head refl)
+
+  pub fitting : {a : EventAnswer} → Decision a → isAccepted a ≡ true → size ≤ length (l .buffer)
+  fitting d h = all-pass d h NoSpace (List·Memᴰ·tail (List·Memᴰ·tail (List·Memᴰ·tail (List·Memᴰ·head refl))))
+
+  pub admissible : {a : EventAnswer} → Decision a → isAccepted a ≡ true → (isRecord (l .bytes) ≡ true → wellFormed (eventIn (l .bytes)) ≡ true)
+      → Runs.Admissible (bookOf tm) s (eventIn (l .bytes))
+  admissible d h w = record {
+    formed = w (in-form d h);
+    below = all-pass d h TooMany (List·Memᴰ·tail (List·Memᴰ·head refl));
+    roomy = all-pass d h NoRoom (List·Memᴰ·tail (List·Memᴰ·tail (List·Memᴰ·head refl)));
+  }
+
+-- a plain state that is sound and in which no row leaves a variable free
+pub record Steady (tm : Tracematch) (s : State) : Type 0 where
   pub sound : soundState (bookOf tm) s ≡ true
+  pub backed : AllBacked tm (s .held)
 
-pub reached-fresh : (tm : Tracematch) → Reached tm fresh
+pub steady-fresh : (tm : Tracematch) (n : ℕ) → n ≤ eventLimit → Steady tm (freshAt n)
 unfolding soundState soundHeld
-reached-fresh tm = record { before = []; at = refl; sound = refl }
-
--- a plain run with one more accepted event
-run-more : {S : Type 0} (step : S → Event → S) (s : S) (cs : List Runs.Call) (e : Event)
-    → Runs.run step s (cs ++ (Runs.event e true ∷ [])) ≡ step (Runs.run step s cs) e
-run-more step s [] e = refl
-run-more step s (Runs.event f true ∷ cs) e = run-more step (step s f) cs e
-run-more step s (Runs.event f false ∷ cs) e = run-more step s cs e
+steady-fresh tm n h = record { sound = ap₂ _&&_ (le-leb n eventLimit h) refl; backed = backed-none tm }
 
 -- after an event that is accepted
-pub reached-next : (tm : Tracematch) → Proper tm → (s : State) → Reached tm s → (e : Event) → wellFormed e ≡ true → s .number < eventLimit
-    → room (bookOf tm) (s .held) e ≡ true → Reached tm (next (bookOf tm) s e)
-unfolding soundState
-reached-next tm ok s h e w l r =
-    let b = bookOf tm in
-    record {
-      before = h .before ++ (Runs.event e true ∷ []);
-      at = ap (λ z. next b z e) (h .at) ∙ sym (run-more (next b) fresh (h .before) e);
-      sound = ap₂ _&&_ (le-leb _ eventLimit l) (kept b (proper-sound tm ok) (s .held) (held-sound b s (h .sound)) e w r);
-    }
+pub steady-next : (tm : Tracematch) → Proper tm → (s : State) → Steady tm s → (e : Event) → Runs.Admissible (bookOf tm) s e
+    → Steady tm (next (bookOf tm) s e)
+steady-next tm ok s h e a = record {
+  sound = admissible-sound (bookOf tm) (proper-sound tm ok) s (h .sound) e a;
+  backed = backed-next tm (s .held) (h .backed) e;
+}
 
--- The struct of a reached state: what the contract of `event` reads in it is what the plain state holds, and check 9 passes.
-module _ (b : Book) (tm : Tracematch) (rd : Read b tm) (s : State) (h : Reached tm s) where
+-- The struct of a steady state: what the contract of `event` reads in it is what the plain state holds, and check 9 passes.
+module _ (b : Book) (tm : Tracematch) (rd : Read b tm) (s : State) (h : Steady tm s) where
   pub variables : b .variables ≡ bookOf tm .variables
   unfolding viewBook
   variables = ap (λ z. z .variables) (rd .view)
@@ -167,7 +192,7 @@ module _ (b : Book) (tm : Tracematch) (rd : Read b tm) (s : State) (h : Reached 
 
   free-by : (e : Event) → leavesFreeBy b (stateOf s) e ≡ false
   unfolding leavesFreeBy
-  free-by e = rw (rd .view, held-is, h .at, state-after tm (h .before)) (none-left-free tm (rd .proper) (h .before) e)
+  free-by e = rw (rd .view, held-is) (backed-free tm (rd .proper) (s .held) (h .backed) e)
 
   state-sound : stateSound b (stateOf s) ≡ true
   unfolding stateSound

@@ -1,44 +1,46 @@
--- The course of a run over a read book: each call is made in the struct of the plain state that the accepted events before it reach;
--- with the call and the accepted call in a place, and the plain trace. For Listed, Answered and Crossed.
-use mathlib.Core.Path.{_≡_, refl, sym, ap, ap₂, _∙_}
-use mathlib.Core.Bool.{Bool, true, false, cond, not, _&&_, false≢true}
-use mathlib.Core.List.{List, [], _∷_, map}
-use Prim.Native.Nat.{ℕ, zero, suc, _+_, _*_, _≤_, _<_}
+-- The course of a run over a read book: the watch follows the plain machine, so each call is made in the struct of the plain state behind the
+-- calls before it; with the accepted call in a place, and the plain trace. For Listed, Answered and Crossed.
+use mathlib.Core.Path.{_≡_, refl, sym, ap, ap₂, subst, _∙_}
+use mathlib.Core.Bool.{Bool, true, false, cond, not}
+use mathlib.Core.List.{List, [], _∷_, _++_, map, map-append, map-map}
+use Prim.Native.Nat.{ℕ, suc, _+_, _*_, _≤_}
 use native.Mathlib.Omega.{arith}
-use native.Mathlib.Nat.{le-of-suc-le-suc}
-use borrow.Author.Tests.{eqb-true, eqb-false, ltb-true, ltb-false}
+use borrow.Author.Tests.{not-true, not-false, eqb-true, eqb-false, ltb-true, ltb-false}
 use lib.Dec.{eqb, ltb}
-use lib.ListN.{length, take, getD}
+use lib.ListN.{length, take, length-map}
+use Rattle.laws.specs.Checks.{Check, noneFails}
 use Rattle.laws.specs.Lists.{all, gather}
 use Rattle.laws.specs.Parts.{splice}
-use Rattle.laws.proofs.Lists.{and-true-split, either}
-use Rattle.pattern.specs.Regex.{Regex}
+use Rattle.laws.proofs.Checks.{first-more}
+use Rattle.laws.proofs.Lists.{either, all-at, all-of, all-map, all-take}
+use Rattle.laws.proofs.Maps.{take-map, keep-map}
+use Rattle.runs.specs.Runs.{stateFrom, Within}
+use Rattle.runs.proofs.Runs.{within-mem, mem-within, results-take, result-at, followed}
+use Rattle.runs.proofs.Accepted.{passed-at}
 use Rattle.meaning.specs.Events.{Event, Valuation, wellFormed}
 use Rattle.meaning.specs.Meaning.{Tracematch}
-use Rattle.meaning.specs.Book.{bookOf, Proper}
-use Rattle.meaning.specs.Labels.{State, fresh, next, newHeld}
+use Rattle.meaning.specs.Book.{bookOf}
+use Rattle.meaning.specs.Labels.{State, freshAt, next}
 use Rattle.meaning.specs.Room.{room}
 use Rattle.meaning.specs.Rows.{rows}
 use Rattle.meaning.specs.Sound.{eventLimit}
 use Rattle.meaning.specs.Runs as Runs
-use Rattle.form.specs.Text.{Bytes, isBytes, Declarations, tracematchOf}
-use Rattle.form.specs.Form.{Form}
+use Rattle.form.specs.Text.{Bytes, isBytes}
 use Rattle.record.specs.Records.{isRecord, eventIn}
 use Rattle.record.proofs.Records.{record-event}
 use Rattle.book.specs.declared.Book.{Book}
-use Rattle.book.specs.Books.{reading}
 use Rattle.state.specs.declared.State.{State as Struct}
 use Rattle.state.specs.States.{stateOf}
 use Rattle.tally.specs.Tallies.{tallied}
 use Rattle.row.specs.RowBytes.{rowSize, rowBytes}
 use Rattle.calls.specs.declared.EventAnswer.{EventAnswer}
-use Rattle.calls.specs.declared.EventAnswer.the-variants.{Accepted, OutOfForm, TooMany, NoRoom, NoSpace}
+use Rattle.calls.specs.declared.EventAnswer.the-variants.{OutOfForm, TooMany, NoRoom, NoSpace}
 use Rattle.calls.specs.declared.Taken.{Taken}
 use Rattle.calls.specs.Calls as Calls
-use Rattle.calls.specs.Calls.{isAccepted, rowsBy, stateBy, answerTo, taken, bufferAfter, freshState}
-use Rattle.calls.specs.Runs.{Lent, Call, event, allBytes, Made, make, runFrom, runOf, wasAccepted, acceptedIn, traceOf, Within}
+use Rattle.calls.specs.Calls.{isAccepted, rowsBy, stateBy, answerTo, taken, bufferAfter}
+use Rattle.calls.specs.Runs.{Lent, Call, lentAt, allBytes, Made, make, watching, runFrom, wasAccepted, acceptedIn, traceOf}
 use Rattle.demands.proofs.States.{number-within}
-use Rattle.demands.proofs.Bridge.{Read, read, Reached, reached-fresh, reached-next, plain, Decision, outOfForm, tooMany, noRoom, noSpace, accepted}
+use Rattle.demands.proofs.Bridge.{Read, Steady, steady-fresh, steady-next, plainCall, plain, Decision, in-form, admissible}
 use Rattle.demands.proofs.Bridge.{variables, rows-by, state-by, room-by, sound-by}
 
 -- What a call hands back and leaves, for any book and state.
@@ -68,33 +70,31 @@ module _ (b : Book) (s : Struct) (l : Lent) where
   unfolding taken bufferAfter
   taken-accepted h = rw h (refl, refl, refl, refl)
 
--- What is lent to a call in the struct of a reached state.
-module _ (b : Book) (tm : Tracematch) (rd : Read b tm) (s : State) (h : Reached tm s) (l : Lent) where
+-- What is lent to a call in the struct of a steady state.
+module _ (b : Book) (tm : Tracematch) (rd : Read b tm) (s : State) (h : Steady tm s) (l : Lent) where
   abbrev now : Event
   now = eventIn (l .bytes)
 
-  abbrev valuations : List Valuation
-  valuations = rows (bookOf tm) (s .held) now
+  abbrev check : Bool → EventAnswer → Check EventAnswer
+  check z a = record { fails = z; answer = a }
 
   -- the checks one by one
   pub decided : Decision tm s l (answerTo b (stateOf s) (l .bytes) (l .buffer) (l .place))
   unfolding answerTo Calls.outOfForm Calls.tooMany Calls.noRoom Calls.noSpace stateOf
   decided =
-      rw (sound-by b tm rd s h (l .bytes), room-by b tm rd s h now, rows-by b tm rd s h now)
-      (go (isRecord (l .bytes)) refl (eqb (s .number) eventLimit) refl (room (bookOf tm) (s .held) now) refl
-      (ltb (length (l .buffer)) (l .place + rowSize * length valuations)) refl)
-    where
-      below : eqb (s .number) eventLimit ≡ false → s .number < eventLimit
-      below f = omega (arith, number-within (bookOf tm) s (h .sound), eqb-false (s .number) eventLimit f)
-
-      go : (p : Bool) → isRecord (l .bytes) ≡ p → (q : Bool) → eqb (s .number) eventLimit ≡ q → (r : Bool) → room (bookOf tm) (s .held) now ≡ r
-          → (t : Bool) → ltb (length (l .buffer)) (l .place + rowSize * length valuations) ≡ t
-          → Decision tm s l (cond (not p) OutOfForm (cond q TooMany (cond (not r) NoRoom (cond t NoSpace Accepted))))
-      go false e q f r g t k = outOfForm e
-      go true e true f r g t k = tooMany e (eqb-true _ eventLimit f)
-      go true e false f false g t k = noRoom e (below f) g
-      go true e false f true g true k = noSpace e (below f) g (ltb-true _ _ k)
-      go true e false f true g false k = accepted e (below f) g (omega (arith, ltb-false (length (l .buffer)) (l .place + rowSize * length valuations) k))
+      let here = rowSize * length (rows (bookOf tm) (s .held) now) in
+      let c13 = check (ltb (length (l .buffer)) (l .place + here)) NoSpace in
+      let c12 = check (not (room (bookOf tm) (s .held) now)) NoRoom in
+      let c11 = check (eqb (s .number) eventLimit) TooMany in
+      let c10 = check (not (isRecord (l .bytes))) OutOfForm in
+      record {
+        first = rw (sound-by b tm rd s h (l .bytes), room-by b tm rd s h now, rows-by b tm rd s h now)
+            (first-more c10 (c11 ∷ c12 ∷ c13 ∷ []) (not-true _) (not-false _)
+            (first-more c11 (c12 ∷ c13 ∷ []) (eqb-true _ eventLimit)
+            (λ f. omega (arith, number-within (bookOf tm) s (h .sound), eqb-false (s .number) eventLimit f))
+            (first-more c12 (c13 ∷ []) (not-true _) (not-false _)
+            (first-more c13 [] (ltb-true _ _) (λ f. omega (arith, ltb-false (length (l .buffer)) (l .place + here) f)) noneFails))));
+      }
 
 -- the plain state behind a call
 abbrev pub after : Tracematch → State → Made → State
@@ -110,30 +110,18 @@ pub record Written (tm : Tracematch) (s : State) (m : Made) : Type 0 where
 
 -- a call that was made in the struct of a plain state
 pub record Done (tm : Tracematch) (s : State) (m : Made) : Type 0 where
-  pub reached : Reached tm s
+  pub steady : Steady tm s
   pub formed : isRecord (m .lent .bytes) ≡ true → wellFormed (eventIn (m .lent .bytes)) ≡ true
   pub decision : Decision tm s (m .lent) (m .taken .answer)
   pub written : wasAccepted m ≡ true → Written tm s m
 
--- calls, each made where those before it led
-pub data Course (tm : Tracematch) : State → List Made → Type 0 where
-  ended : {s : State} → Course tm s []
-  call : {s : State} {m : Made} {ms : List Made} → Done tm s m → Course tm (after tm s m) ms → Course tm s (m ∷ ms)
+-- A call of bytes in the struct of a steady state, and the struct that it leaves.
+module _ (b : Book) (tm : Tracematch) (rd : Read b tm) (s : State) (h : Steady tm s) (c : Call) (bytes : isBytes (lentAt c .bytes) ≡ true) where
+  abbrev l : Lent
+  l = lentAt c
 
--- accepted or refused, a call leads to a reached state
-reached-after : (tm : Tracematch) → Proper tm → (s : State) → Reached tm s → (l : Lent)
-    → (isRecord (l .bytes) ≡ true → wellFormed (eventIn (l .bytes)) ≡ true)
-    → (a : EventAnswer) → Decision tm s l a → Reached tm (cond (isAccepted a) (next (bookOf tm) s (eventIn (l .bytes))) s)
-reached-after tm ok s h l w a (outOfForm x) = h
-reached-after tm ok s h l w a (tooMany x y) = h
-reached-after tm ok s h l w a (noRoom x y z) = h
-reached-after tm ok s h l w a (noSpace x y z t) = h
-reached-after tm ok s h l w a (accepted x y z t) = reached-next tm ok s h (eventIn (l .bytes)) (w x) y z
-
--- A call of bytes in the struct of a reached state, and the struct that it leaves.
-module _ (b : Book) (tm : Tracematch) (rd : Read b tm) (s : State) (h : Reached tm s) (l : Lent) (bytes : isBytes (l .bytes) ≡ true) where
   abbrev made : Made
-  made = make b (stateOf s) (event l)
+  made = make b (stateOf s) c
 
   was : wasAccepted made ≡ isAccepted (reply b (stateOf s) l)
   unfolding make
@@ -142,7 +130,7 @@ module _ (b : Book) (tm : Tracematch) (rd : Read b tm) (s : State) (h : Reached 
   done : Done tm s made
   unfolding make bookOf stateOf
   done = record {
-    reached = h;
+    steady = h;
     formed = record-event (l .bytes) bytes;
     decision = rw (taken-answer b (stateOf s) l) (decided b tm rd s h l);
     written = λ a.
@@ -165,93 +153,77 @@ module _ (b : Book) (tm : Tracematch) (rd : Read b tm) (s : State) (h : Reached 
       go true e = taken-accepted b (stateOf s) l e .1 ∙ state-by b tm rd s h (eventIn (l .bytes))
       go false e = ap (λ r. r .state) (taken-refused b (stateOf s) l e .0)
 
--- a run from the struct of a reached state
-pub course : (b : Book) (tm : Tracematch) → Read b tm → (s : State) → Reached tm s → (cs : List Call) → allBytes cs ≡ true
-    → Course tm s (runFrom b (stateOf s) cs)
-course b tm rd s h [] bytes = ended
-course b tm rd s h (event l ∷ cs) bytes =
-    let (x, y) = and-true-split (isBytes (l .bytes)) (allBytes cs) bytes in
-    let m = make b (stateOf s) (event l) in
-    let d = done b tm rd s h l x in
-    let reached = reached-after tm (rd .proper) s h (m .lent) (d .formed) _ (d .decision) in
-    let rest : Course tm (after tm s m) (runFrom b (m .taken .state) cs) = rw (done-state b tm rd s h l x) (course b tm rd (after tm s m) reached cs y) in
-    call d rest
+  done-steady : Steady tm (after tm s made)
+  done-steady =
+      either (Steady tm) (wasAccepted made)
+      (λ a. steady-next tm (rd .proper) s h (eventIn (made .lent .bytes)) (admissible tm s (made .lent) (done .decision) a (done .formed))) (λ _. h)
 
--- the run over a read text
-pub read-course : (text : Bytes) (d : Declarations) (r : Regex) → Form text d r → (cs : List Call) → allBytes cs ≡ true
-    → Course (tracematchOf d r) fresh (runOf (reading text .book) cs)
-unfolding freshState
-read-course text d r f cs bytes = course (reading text .book) (tracematchOf d r) (read text d r f) fresh (reached-fresh _) cs bytes
+-- The watch over a read book follows the plain machine: the struct of its state is that of a steady plain state. From nothing held after n events.
+module _ (b : Book) (tm : Tracematch) (rd : Read b tm) (n : ℕ) (few : n ≤ eventLimit) where
+  abbrev Mirrors : Struct → State → Type 0
+  Mirrors z s = (z ≡ stateOf s) × Steady tm s
 
--- a plain run goes on from the state behind its first call
-run-after : (tm : Tracematch) (s : State) (e : Event) (z : Bool) (cs : List Runs.Call)
-    → Runs.run (next (bookOf tm)) s (Runs.event e z ∷ cs) ≡ Runs.run (next (bookOf tm)) (cond z (next (bookOf tm) s e) s) cs
-run-after tm s e true cs = refl
-run-after tm s e false cs = refl
+  mirrors-next : (z : Struct) (s : State) → Mirrors z s → (c : Call) → isBytes (lentAt c .bytes) ≡ true
+      → Mirrors (make b z c .taken .state) (after tm s (make b z c))
+  mirrors-next z s (e, h) c x = rw e (done-state b tm rd s h c x, done-steady b tm rd s h c x)
 
--- the first calls of a run are one
-pub course-take : (tm : Tracematch) {s : State} {ms : List Made} → Course tm s ms → (k : ℕ) → Course tm s (take k ms)
-course-take tm c zero = ended
-course-take tm ended (suc k) = ended
-course-take tm (call d c) (suc k) = call d (course-take tm c k)
+  -- the plain state behind calls that were made
+  abbrev pub behind : List Made → State
+  behind ms = Runs.run (next (bookOf tm)) (freshAt n) (plain ms)
 
--- the call in a place met the state that the calls before it reach
-pub course-at : (tm : Tracematch) {s : State} {ms : List Made} → Course tm s ms → (k : ℕ) (m : Made) → Within ms k m
-    → Done tm (Runs.run (next (bookOf tm)) s (plain (take k ms))) m
-course-at tm ended k m h = absurd (omega (arith, h .0))
-course-at tm {s} (call d c) zero m h = rw (← h .1 m) d
-course-at tm {s} (call {m = m₀} {ms = ms} d c) (suc k) m h =
-    rw (run-after tm s (eventIn (m₀ .lent .bytes)) (wasAccepted m₀) (plain (take k ms)))
-    (course-at tm c k m (le-of-suc-le-suc (h .0), h .1))
+  pub mirrored : (cs : List Call) → allBytes cs ≡ true
+      → Mirrors (stateFrom (watching b) (stateOf (freshAt n)) cs) (behind (runFrom b (stateOf (freshAt n)) cs))
+  mirrored cs bytes =
+      followed (watching b) (Runs.plainMachine (next (bookOf tm)) (λ s e. e)) plainCall Mirrors {P = λ c. isBytes (lentAt c .bytes) ≡ true} mirrors-next
+      (stateOf (freshAt n)) (freshAt n) (refl, steady-fresh tm n few) cs (λ c m. all-at (λ c. isBytes (lentAt c .bytes)) bytes m)
 
--- the accepted call in a place of the trace: the state that it met, and that the plain run gives its rows there
-pub record Placed (tm : Tracematch) (s : State) (cs : List Runs.Call) (i : ℕ) (m : Made) : Type 0 where
-  pub state : State
-  pub done : Done tm state m
-  pub accepted : wasAccepted m ≡ true
-  pub number : state .number ≡ s .number + i
-  pub gave : getD (Runs.given (newHeld (bookOf tm)) (rows (bookOf tm)) (s .held) cs) i [] ≡ rows (bookOf tm) (state .held) (eventIn (m .lent .bytes))
+  -- the call in a place met the state behind the calls before it
+  pub course-at : (cs : List Call) → allBytes cs ≡ true → (k : ℕ) (m : Made) → Within (runFrom b (stateOf (freshAt n)) cs) k m
+      → Done tm (behind (take k (runFrom b (stateOf (freshAt n)) cs))) m
+  course-at cs bytes k m w =
+      let z = stateOf (freshAt n) in
+      let (c, v, e) = result-at (watching b) z cs k m w in
+      let (x, h) = mirrored (take k cs) (all-take (λ c. isBytes (lentAt c .bytes)) k cs bytes) in
+      let s = behind (runFrom b z (take k cs)) in
+      let d : Done tm s (make b (stateOf s) c) = done b tm rd s h c (all-at (λ c. isBytes (lentAt c .bytes)) bytes (within-mem v)) in
+      subst (λ l. Done tm (behind l) m) (sym (results-take (watching b) z k cs)) (subst (Done tm s) (sym (e ∙ ap (λ y. make b y c) x)) d)
 
-pub accepted-at : (tm : Tracematch) {s : State} {ms : List Made} → Course tm s ms → (i : ℕ) (m : Made) → Within (acceptedIn ms) i m
-    → Placed tm s (plain ms) i m
-accepted-at tm ended i m h = absurd (omega (arith, h .0))
-accepted-at tm {s} (call {m = m₀} {ms = ms} d c) i m h = go (wasAccepted m₀) refl i h (λ j k. accepted-at tm c j m k)
-  where
-    go : (z : Bool) → wasAccepted m₀ ≡ z → (i : ℕ) → Within (cond z (m₀ ∷ acceptedIn ms) (acceptedIn ms)) i m
-        → ((j : ℕ) → Within (acceptedIn ms) j m → Placed tm (cond z (next (bookOf tm) s (eventIn (m₀ .lent .bytes))) s) (plain ms) j m)
-        → Placed tm s (Runs.event (eventIn (m₀ .lent .bytes)) z ∷ plain ms) i m
-    go true e zero h ih = rw (← h .1 m) (record { state = s; done = d; accepted = e; number = omega arith; gave = refl })
-    go true e (suc i) h ih =
-        let r = ih i (le-of-suc-le-suc (h .0), h .1) in
-        record { state = r .state; done = r .done; accepted = r .accepted; number = omega (arith, r .number); gave = r .gave }
-    go false e i h ih =
-        let r = ih i h in
-        record { state = r .state; done = r .done; accepted = r .accepted; number = r .number; gave = r .gave }
-
--- what acceptance says of the record and of the buffer
-pub accepted-parts : (tm : Tracematch) (s : State) (l : Lent) (a : EventAnswer) → Decision tm s l a → isAccepted a ≡ true
-    → (isRecord (l .bytes) ≡ true) × (l .place + rowSize * length (rows (bookOf tm) (s .held) (eventIn (l .bytes))) ≤ length (l .buffer))
-accepted-parts tm s l a (outOfForm x) h = absurd (false≢true h)
-accepted-parts tm s l a (tooMany x y) h = absurd (false≢true h)
-accepted-parts tm s l a (noRoom x y z) h = absurd (false≢true h)
-accepted-parts tm s l a (noSpace x y z t) h = absurd (false≢true h)
-accepted-parts tm s l a (accepted x y z t) h = (x, t)
-
--- the trace of the plain run, and that it is well-formed
+-- the trace of the plain run, and how many events it has
 pub trace-plain : (ms : List Made) → Runs.traceOf (plain ms) ≡ traceOf ms
-trace-plain [] = refl
-trace-plain (m ∷ ms) = go (wasAccepted m) (trace-plain ms)
-  where
-    go : (z : Bool) → Runs.traceOf (plain ms) ≡ traceOf ms → Runs.traceOf (Runs.event (eventIn (m .lent .bytes)) z ∷ plain ms)
-        ≡ map eventIn (map (λ n. n .lent .bytes) (cond z (m ∷ acceptedIn ms) (acceptedIn ms)))
-    go true ih = ap (λ t. eventIn (m .lent .bytes) ∷ t) ih
-    go false ih = ih
+trace-plain ms =
+    ap (map Runs.sentEvent) (keep-map Runs.wasTaken plainCall ms) ∙ map-map Runs.sentEvent plainCall (acceptedIn ms)
+    ∙ sym (map-map eventIn (λ m. m .lent .bytes) (acceptedIn ms))
 
-pub trace-formed : (tm : Tracematch) {s : State} {ms : List Made} → Course tm s ms → all wellFormed (Runs.traceOf (plain ms)) ≡ true
-trace-formed tm ended = refl
-trace-formed tm {s} (call {m = m} {ms = ms} d c) = go (wasAccepted m) refl (trace-formed tm c)
-  where
-    go : (z : Bool) → wasAccepted m ≡ z → all wellFormed (Runs.traceOf (plain ms)) ≡ true
-        → all wellFormed (Runs.traceOf (Runs.event (eventIn (m .lent .bytes)) z ∷ plain ms)) ≡ true
-    go true e ih = ap₂ _&&_ (d .formed (accepted-parts tm s (m .lent) _ (d .decision) e .0)) ih
-    go false e ih = ih
+-- an accepted call in a place of the trace: where it stands in the run, what it met there, and the trace up to it
+pub record Placed (tm : Tracematch) (n : ℕ) (ms : List Made) (i : ℕ) (m : Made) : Type 0 where
+  pub place : ℕ
+  pub done : Done tm (Runs.run (next (bookOf tm)) (freshAt n) (plain (take place ms))) m
+  pub accepted : wasAccepted m ≡ true
+  pub count : length (traceOf (take place ms)) ≡ i
+  pub upto : take (suc i) (traceOf ms) ≡ traceOf (take place ms) ++ (eventIn (m .lent .bytes) ∷ [])
+
+module _ (b : Book) (tm : Tracematch) (rd : Read b tm) (n : ℕ) (few : n ≤ eventLimit) (cs : List Call) (bytes : allBytes cs ≡ true) where
+  abbrev ms : List Made
+  ms = runFrom b (stateOf (freshAt n)) cs
+
+  pub accepted-at : (i : ℕ) (m : Made) → Within (acceptedIn ms) i m → Placed tm n ms i m
+  accepted-at i m w =
+      let p = passed-at wasAccepted ms i m w in
+      let told : Made → Event = λ r. eventIn (r .lent .bytes) in
+      let events : (l : List Made) → traceOf l ≡ map told (acceptedIn l) = λ l. map-map eventIn (λ r. r .lent .bytes) (acceptedIn l) in
+      record {
+        place = p .place;
+        done = course-at b tm rd n few cs bytes (p .place) m (p .there);
+        accepted = p .passes;
+        count = rw (length-map, length-map) (p .before);
+        upto = rw (events ms, events (take (p .place) ms))
+            (take-map told (suc i) (acceptedIn ms) ∙ ap (map told) (p .upto) ∙ map-append told (acceptedIn (take (p .place) ms)) (m ∷ []));
+      }
+
+  -- the events of accepted calls are well formed
+  pub trace-formed : all wellFormed (traceOf ms) ≡ true
+  trace-formed =
+      rw (all-map, all-map) (all-of (λ m. wellFormed (eventIn (m .lent .bytes))) (acceptedIn ms) λ m k.
+      let (i, w) = mem-within k in
+      let p = accepted-at i m w in
+      p .done .formed (in-form tm _ (m .lent) (p .done .decision) (p .accepted)))

@@ -1,20 +1,23 @@
 -- Demand 3: one theorem about two whole lists of event calls over one read text, refused ones included. For the buyer.
-use mathlib.Core.Path.{_≡_, refl, sym, ap, _∙_}
+use mathlib.Core.Path.{_≡_, sym, ap, _∙_}
 use mathlib.Core.Bool.{true}
-use mathlib.Core.List.{List, [], _∷_, map, List·Memᴰ}
+use mathlib.Core.List.{List, [], map, List·Memᴰ}
 use mathlib.Core.Logic.{Iff·trans, Iff·symm}
-use Prim.Native.Nat.{ℕ, zero, suc, _≤_, _<_}
+use Prim.Native.Nat.{ℕ, suc, _≤_, _<_}
 use native.Mathlib.Omega.{arith}
 use borrow.Author.Tests.{eqb-true}
 use lib.Dec.{eqb}
 use lib.ListN.{length, getD, length-map, List·getD-map}
 use Rattle.laws.proofs.Lists.{and-true-split}
 use Rattle.laws.proofs.Sets.{same-members}
+use Rattle.runs.specs.Runs.{Within}
+use Rattle.runs.specs.Pairs.{Pairing}
+use Rattle.runs.proofs.Runs.{within-at}
 use Rattle.pattern.specs.Regex.{Regex}
 use Rattle.meaning.specs.Events.{Event, Valuation, isValuation}
 use Rattle.meaning.specs.Meaning.{Tracematch, noEvent}
 use Rattle.meaning.specs.Book.{Proper}
-use Rattle.meaning.specs.Runs.{Listed, Pairing, Ordered}
+use Rattle.meaning.specs.Runs.{Listed, Ordered}
 use Rattle.automaton.proofs.Crossed.{partner-rows}
 use Rattle.automaton.proofs.Orders.{valuation-order}
 use Rattle.form.specs.Text.{Bytes, Declarations, tracematchOf}
@@ -22,7 +25,7 @@ use Rattle.form.specs.Form.{Form}
 use Rattle.parsing.proofs.Accepted.{form-proper}
 use Rattle.record.specs.Records.{eventIn}
 use Rattle.book.specs.Books.{reading}
-use Rattle.calls.specs.Runs.{Call, Made, allBytes, runOf, acceptedIn, recordsOf, traceOf, Within, Partners, InOrder, Alike, Crossed}
+use Rattle.calls.specs.Runs.{Call, Made, allBytes, runOf, acceptedIn, recordsOf, traceOf, Partners, InOrder, Alike, Crossed}
 use Rattle.demands.proofs.Listed.{listed}
 use Rattle.demands.proofs.Tails.{tail, buffer-tail}
 
@@ -67,7 +70,7 @@ partners-alike text d r f xs ys bx by p o i a c ha hc =
     let u = recordsOf (runOf (reading text .book) ys) in
     let left = listed text d r f xs bx i a ha in
     let right = listed text d r f ys by (p .to i) c hc in
-    let inside : i < length (map eventIn t) = rw (length-map, length-map) (ha .0) in
+    let inside : i < length (map eventIn t) = rw (length-map, length-map) (ha .inside) in
     let same : left .valuations ≡ right .valuations =
     same-members valuation-order _ _ (left .meant .ordered) (right .meant .ordered) λ σ.
     Iff·trans (left .meant .exact σ) (Iff·trans (partner-rows tm _ _ (events t u p) (in-order tm t u p o) i inside σ) (Iff·symm (right .meant .exact σ))) in
@@ -83,20 +86,14 @@ partners-alike text d r f xs ys bx by p o i a c ha hc =
           ∙ sym (buffer-tail _ _ _ (listed-width tm ok (right .meant)) _ _ (omega (arith, right .fitting)) j (rw (left .counted, same) at h)));
     }
 
--- the call in a place
-call-at : (ms : List Made) (i : ℕ) → i < length ms → (m : Made) × Within ms i m
-call-at [] i h = absurd (omega arith)
-call-at (m ∷ ms) zero h = (m, (h, λ d. refl))
-call-at (m ∷ ms) (suc i) h = let (c, k) = call-at ms i (omega arith) in (c, (h, k .1))
-
 -- all partners: the two runs may refuse different calls, and lend other buffers, places and tallies
 pub crossed : (text : Bytes) (d : Declarations) (r : Regex) → Form text d r → (xs ys : List Call) → allBytes xs ≡ true → allBytes ys ≡ true
     → (p : Partners (recordsOf (runOf (reading text .book) xs)) (recordsOf (runOf (reading text .book) ys)))
     → InOrder (tracematchOf d r) (recordsOf (runOf (reading text .book) xs)) (recordsOf (runOf (reading text .book) ys)) p
     → Crossed (tracematchOf d r) (runOf (reading text .book) xs) (runOf (reading text .book) ys) p
 crossed text d r f xs ys bx by p o =
-    let first = call-at (acceptedIn (runOf (reading text .book) xs)) in
-    let second = call-at (acceptedIn (runOf (reading text .book) ys)) in
+    let first = within-at (acceptedIn (runOf (reading text .book) xs)) in
+    let second = within-at (acceptedIn (runOf (reading text .book) ys)) in
     let inside : (i : ℕ) → i < length (acceptedIn (runOf (reading text .book) xs)) → p .to i < length (acceptedIn (runOf (reading text .book) ys)) =
     λ i h. rw length-map at (p .to-inside i (rw length-map h)) in
     record {

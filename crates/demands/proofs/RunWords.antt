@@ -1,6 +1,6 @@
 -- Runs, rows that are meant, and pairings in words: what `listed`, `answered` and `crossed` use by name, written out. For the buyer, beside document
 -- 01's "Crossed messages" and demand 2.
-use mathlib.Core.Path.{_≡_, refl, sym, ap, _∙_}
+use mathlib.Core.Path.{_≡_, refl, ap}
 use mathlib.Core.Bool.{true, false}
 use mathlib.Core.List.{List, [], _∷_, _++_, map, List·Memᴰ}
 use mathlib.Core.Logic.{_↔_, _⊎_, inl, inr, ⊎-elim}
@@ -9,15 +9,18 @@ use native.Mathlib.Omega.{arith}
 use borrow.Author.Tests.{ltb-true, lt-ltb}
 use lib.Dec.{ltb}
 use lib.ListN.{length, take, drop, getD}
+use Rattle.laws.specs.Checks.{FirstToFail, noneFails, failsHere, failsLater}
 use Rattle.laws.specs.Lists.{keep, gather}
 use Rattle.laws.specs.Order.{ascending}
 use Rattle.laws.specs.Parts.{splice}
 use Rattle.laws.proofs.Lists.{all-at, all-of}
+use Rattle.runs.specs.Runs.{Within}
+use Rattle.runs.proofs.Runs.{behind-more, within-one}
 use Rattle.pattern.specs.Regex.{In}
 use Rattle.meaning.specs.Events.{Event, Valuation, isValuation, holds, concerns}
 use Rattle.meaning.specs.Meaning.{Tracematch, noSymbol, noEvent, Reading, nothing, next, Row}
 use Rattle.meaning.specs.Book.{bookOf}
-use Rattle.meaning.specs.Labels.{Held, newHeld}
+use Rattle.meaning.specs.Labels.{newHeld}
 use Rattle.meaning.specs.Room.{Broken}
 use Rattle.meaning.specs.Rows.{compareValuations}
 use Rattle.form.specs.Text.{Bytes, isBytes}
@@ -28,8 +31,9 @@ use Rattle.book.specs.declared.Book.{Book}
 use Rattle.state.specs.declared.State.{State}
 use Rattle.calls.specs.Answers.{numberOf}
 use Rattle.calls.specs.Calls.{freshState, taken, bufferAfter}
-use Rattle.calls.specs.Runs.{Lent, Call, event, lentAt, allBytes, Made, make, runFrom, runOf, acceptedIn, recordsOf, traceOf, Within, Delivered}
-use Rattle.calls.specs.Runs.{heldFrom, heldAfter, TooShort, beyond, over, Judged, outOfForm, tooMany, noRoom, noSpace, accepted}
+use Rattle.calls.specs.Runs.{Lent, Call, event, lentAt, allBytes, Made, make, runFrom, runOf, acceptedIn, recordsOf, traceOf, Delivered}
+use Rattle.calls.specs.Runs.{heldAfter, TooShort, beyond, over, FailsAfter, PassesAfter, Judged}
+use Rattle.calls.specs.declared.EventAnswer.the-variants.{OutOfForm, TooMany, NoRoom, NoSpace}
 use Rattle.calls.specs.Runs.{Partners, InOrder, Crossed}
 use Rattle.demands.proofs.Checks.{accepted-zero, refused-number}
 
@@ -76,7 +80,7 @@ bytes-words cs = (
     bytes f (event l) m = all-of (λ b. ltb b 256) (l .bytes) (λ x k. lt-ltb x 256 (f l m x k))
 
 pub within-words : (ms : List Made) (i : ℕ) (m : Made) → Within ms i m ↔ ((i < length ms) × ((d : Made) → getD ms i d ≡ m))
-within-words ms i m = (λ w. w, λ w. w)
+within-words ms i m = (λ w. (w .inside, w .at), λ (h, e). record { inside = h; at = e })
 
 -- "read as symbols that hold": as many symbols as events, each declared, each with a constraint that holds
 pub reading-words : (tm : Tracematch) (σ : Valuation) (e : Event) (es : List Event) (a : ℕ) (w : List ℕ)
@@ -138,11 +142,7 @@ delivered-words tm t n m = (
 -- what the labels hold after the events of a trace, one after the other from nothing
 pub after-words : (tm : Tracematch) (t : List Event) (e : Event)
     → (heldAfter tm [] ≡ []) × (heldAfter tm (t ++ (e ∷ [])) ≡ newHeld (bookOf tm) (heldAfter tm t) e)
-after-words tm t e = (refl, behind [] t)
-  where
-    behind : (h : List Held) (t : List Event) → heldFrom tm h (t ++ (e ∷ [])) ≡ newHeld (bookOf tm) (heldFrom tm h t) e
-    behind h [] = refl
-    behind h (x ∷ t) = behind (newHeld (bookOf tm) h x) t
+after-words tm t e = (refl, behind-more (newHeld (bookOf tm)) [] t (e ∷ []))
 
 module _ (tm : Tracematch) (t : List Event) (l : Lent) where
   -- a record in form, and events left to accept
@@ -165,21 +165,24 @@ module _ (tm : Tracematch) (t : List Event) (l : Lent) where
 
   -- "Events: 9 to 13 in that order", along a run, where 9 is never
   pub judged-words : (k : ℕ) → Judged tm t l k ↔ Answers k
-  judged-words k = (forth, back)
+  judged-words k = (λ j. forth (j .first), λ x. record { first = back x })
     where
-      forth : {k : ℕ} → Judged tm t l k → Answers k
-      forth (outOfForm h) = inl (refl, h)
-      forth (tooMany h n) = inr (inl (refl, h, n))
-      forth (noRoom h n b) = inr (inr (inl (refl, (h, n), b)))
-      forth (noSpace h n b s) = inr (inr (inr (inl (refl, (h, n), b, s))))
-      forth (accepted h n b s) = inr (inr (inr (inr (refl, (h, n), b, s))))
+      First : ℕ → Type 0
+      First n = FirstToFail (FailsAfter tm t l) (PassesAfter tm t l) numberOf 0 (OutOfForm ∷ TooMany ∷ NoRoom ∷ NoSpace ∷ []) n
 
-      back : {k : ℕ} → Answers k → Judged tm t l k
-      back (inl (e, h)) = rw e (outOfForm h)
-      back (inr (inl (e, h, n))) = rw e (tooMany h n)
-      back (inr (inr (inl (e, (h, n), b)))) = rw e (noRoom h n b)
-      back (inr (inr (inr (inl (e, (h, n), b, s))))) = rw e (noSpace h n b s)
-      back (inr (inr (inr (inr (e, (h, n), b, s))))) = rw e (accepted h n b s)
+      forth : {k : ℕ} → First k → Answers k
+      forth (failsHere h) = inl (refl, h)
+      forth (failsLater h (failsHere n)) = inr (inl (refl, h, n))
+      forth (failsLater h (failsLater n (failsHere b))) = inr (inr (inl (refl, (h, n), b)))
+      forth (failsLater h (failsLater n (failsLater b (failsHere s)))) = inr (inr (inr (inl (refl, (h, n), b, s))))
+      forth (failsLater h (failsLater n (failsLater b (failsLater s noneFails)))) = inr (inr (inr (inr (refl, (h, n), b, s))))
+
+      back : {k : ℕ} → Answers k → First k
+      back (inl (e, h)) = rw e (failsHere h)
+      back (inr (inl (e, h, n))) = rw e (failsLater h (failsHere n))
+      back (inr (inr (inl (e, (h, n), b)))) = rw e (failsLater h (failsLater n (failsHere b)))
+      back (inr (inr (inr (inl (e, (h, n), b, s))))) = rw e (failsLater h (failsLater n (failsLater b (failsHere s))))
+      back (inr (inr (inr (inr (e, (h, n), b, s))))) = rw e (failsLater h (failsLater n (failsLater b (failsLater s noneFails))))
 
 -- "row buffer too short, or start place beyond it"
 pub short-words : (tm : Tracematch) (t : List Event) (e : Event) (buffer : Bytes) (place : ℕ)
@@ -231,8 +234,8 @@ pub crossed-words : (tm : Tracematch) (xs ys : List Made) (p : Partners (records
     × ((j : ℕ) → j < m .taken .rows
     → take 20 (drop (m .lent .place + 24 * j + 4) (m .buffer)) ≡ take 20 (drop (n .lent .place + 24 * j + 4) (n .buffer)))
 crossed-words tm xs ys p c i m n x y =
-    let h = x .0 in
+    let h = x .inside in
     let a = c .alike i h in
-    let e : c .first i h ≡ m = sym (c .first-at i h .1 m) ∙ x .1 m in
-    let f : c .partner i h ≡ n = sym (c .partner-at i h .1 n) ∙ y .1 n in
+    let e : c .first i h ≡ m = within-one (c .first-at i h) x in
+    let f : c .partner i h ≡ n = within-one (c .partner-at i h) y in
     rw (← e, ← f) (a .left, a .right, a .counts, a .bytes)

@@ -1,14 +1,15 @@
 -- Laws of the first failing check: what is given is unique, is what the computed list gives, and is the number of a check just where that check is
 -- the first that fails. For every list of checks that a call goes through.
-use mathlib.Core.Path.{_≡_, refl, ap}
+use mathlib.Core.Path.{_≡_, refl, sym, subst, _∙_}
 use mathlib.Core.Bool.{Bool, true, false, cond, _||_, false≢true}
-use mathlib.Core.List.{List, [], _∷_, map}
-use mathlib.Core.Logic.{_↔_}
+use mathlib.Core.List.{List, [], _∷_, map, List·Memᴰ, List·Memᴰ·not-nil, List·Memᴰ·cases-cons}
+use mathlib.Core.Logic.{_↔_, ⊎-elim}
 use Prim.Native.Nat.{ℕ}
 use borrow.Author.Tests.{eqb-true, eqb-false}
 use lib.Dec.{eqb}
 use Rattle.laws.specs.Checks.{Check, firstFailing, FirstToFail, noneFails, failsHere, failsLater}
-use Rattle.laws.proofs.Lists.{or-false-split, either}
+use Rattle.laws.specs.Lists.{any, all}
+use Rattle.laws.proofs.Lists.{and-true-split, or-false-split, either}
 
 -- a check that fails answers; one that passes leaves the answer to those behind it
 module _ {A : Type 0} (otherwise : A) (c : Check A) (cs : List (Check A)) where
@@ -41,6 +42,22 @@ module _ {K N : Type 0} {Fails Passes : K → Type 0} {number : K → N} {otherw
   first-named name noneFails = noneFails
   first-named name (failsHere x) = failsHere x
   first-named name (failsLater x y) = failsLater x (first-named name y)
+
+-- what is given is told by a check, or is `otherwise`: what is true of all these is true of it
+pub first-all : {K N : Type 0} {Fails Passes : K → Type 0} {number : K → N} {otherwise : N} (test : N → Bool) {ks : List K} {n : N}
+    → FirstToFail Fails Passes number otherwise ks n → all (λ k. test (number k)) ks ≡ true → test otherwise ≡ true → test n ≡ true
+first-all test noneFails h o = o
+first-all {number = number} test (failsHere {k = k} f) h o = and-true-split (test (number k)) _ h .0
+first-all {number = number} test (failsLater {k = k} p r) h o = first-all test r (and-true-split (test (number k)) _ h .1) o
+
+-- what is no check's own answer is given where all pass
+pub first-passed : {K N : Type 0} {Fails Passes : K → Type 0} {number : K → N} {otherwise : N} (own : N → Bool) {ks : List K} {n : N}
+    → FirstToFail Fails Passes number otherwise ks n → any (λ k. own (number k)) ks ≡ false → own n ≡ true → (k : K) → List·Memᴰ k ks → Passes k
+first-passed own noneFails none h k m = absurd (List·Memᴰ·not-nil m)
+first-passed {number = number} own (failsHere {k = x} f) none h k m =
+    absurd (false≢true (sym (or-false-split (own (number x)) _ none .0) ∙ h))
+first-passed {Passes = Passes} {number = number} own (failsLater {k = x} {ks = ks} p r) none h k m =
+    ⊎-elim (λ e. subst Passes (sym e) p) (λ n. first-passed own r (or-false-split (own (number x)) _ none .1) h k n) (List·Memᴰ·cases-cons m)
 
 -- one more check before the others, as it is computed
 pub first-more : {A : Type 0} {Fails Passes : A → Type 0} {otherwise : A} (c : Check A) (cs : List (Check A))

@@ -1,12 +1,12 @@
 -- Laws of runs: each result is that of its call in the state behind those before it, what every call keeps holds in every state, and one machine
 -- follows another call by call.
-use mathlib.Core.Path.{_≡_, refl, sym, ap, _∙_}
+use mathlib.Core.Path.{_≡_, refl, sym, ap, subst, _∙_}
 use mathlib.Core.List.{List, [], _∷_, _++_, map, List·Memᴰ, List·Memᴰ·head, List·Memᴰ·tail}
 use Prim.Native.Nat.{ℕ, zero, suc, _<_, suc-le-suc}
 use native.Mathlib.Nat.{not-suc-le-zero, le-of-suc-le-suc}
 use native.Mathlib.Omega.{arith}
 use lib.ListN.{length, take, getD, length-map}
-use Rattle.laws.proofs.Lists.{mem-getD}
+use Rattle.laws.proofs.Lists.{mem-getD, mem-index}
 use Rattle.runs.specs.Runs.{Machine, resultsFrom, stateFrom, Along, ended, called, behindTrace, Within}
 
 -- the state behind one trace and then another
@@ -46,6 +46,12 @@ within-map {A} {B} f {l} {i} {x} w = record { inside = rw length-map (w .inside)
 
 pub within-mem : {A : Type 0} {l : List A} {i : ℕ} {x : A} → Within l i x → List·Memᴰ x l
 within-mem {l = l} {i = i} {x = x} w = rw (w .at x) at (mem-getD l i x (w .inside))
+
+pub mem-within : {A : Type 0} {l : List A} {x : A} → List·Memᴰ x l → (i : ℕ) × Within l i x
+mem-within {l = l} {x = x} m =
+    let (i, h, e) = mem-index x m in
+    let (y, w) = within-at l i h in
+    (i, subst (Within l i) (sym (w .at x) ∙ e) w)
 
 module _ {S C R : Type 0} (m : Machine S C R) where
   -- a result for each call
