@@ -7,6 +7,7 @@ use mathlib.Core.Logic.{_↔_, _⊎_}
 use Prim.Native.Nat.{ℕ, suc, _≤_, _<_}
 use lib.ListN.{length, take, replicate}
 use Rattle.laws.specs.Order.{ascending}
+use Rattle.runs.specs.Runs.{Within}
 use Rattle.pattern.specs.Regex.{Regex}
 use Rattle.meaning.specs.Events.{Event, Valuation, Demand, never, demands, constraintOf}
 use Rattle.meaning.specs.Meaning.{Tracematch, Row}
@@ -23,7 +24,7 @@ use Rattle.record.specs.Records.{isRecord, eventIn}
 use Rattle.book.specs.Books.{reading}
 use Rattle.state.proofs.Words.{vacant}
 use Rattle.calls.specs.Answers.{numberOf}
-use Rattle.calls.specs.Runs.{Lent, Call, Made, allBytes, runOf, acceptedIn, recordsOf, traceOf, Within, Delivered, heldAfter, TooShort, Judged}
+use Rattle.calls.specs.Runs.{Lent, Call, Made, allBytes, runOf, acceptedIn, recordsOf, traceOf, Delivered, heldAfter, TooShort, Judged}
 use Rattle.calls.specs.Runs.{Partners, InOrder, Crossed}
 use Rattle.calls.specs.Demands.{Demands}
 use Rattle.demands.proofs.Checks.{through, FourRules}

@@ -1,7 +1,7 @@
 -- The words of the theorems on plain data (crate automaton) and of `positions`, `positions-left` (crate pattern), each with its text, so that no
 -- such statement can get weaker with no call moving.
 use mathlib.Core.Path.{_≡_, refl}
-use mathlib.Core.Bool.{true, false, cond, _&&_}
+use mathlib.Core.Bool.{true, false, cond, _&&_, false≢true}
 use mathlib.Core.List.{List, [], _∷_, map, List·Memᴰ}
 use mathlib.Core.Logic.{_↔_, _⊎_, inl, inr, ⊎-elim}
 use Prim.Native.Nat.{ℕ, _+_, _^_, _≤_, _<_}
@@ -10,6 +10,8 @@ use lib.ListN.{length, getD}
 use Rattle.laws.specs.Bits.{bit}
 use Rattle.laws.specs.Lists.{any, all}
 use Rattle.laws.specs.Order.{ascending}
+use Rattle.runs.specs.Runs.{ended, called}
+use Rattle.runs.specs.Pairs.{Pairing}
 use Rattle.pattern.specs.Regex.{Regex, lit, cat, alt, star, plus, opt, In}
 use Rattle.pattern.specs.Positions.{size, symbols, beginning, ending, following, symbolAt, Has, Onward, stop, on, Spelling, Reach, start, next}
 use Rattle.meaning.specs.Events.{Event, Valuation, wellFormed, isValuation, concerns}
@@ -19,8 +21,7 @@ use Rattle.meaning.specs.Labels as Labels
 use Rattle.meaning.specs.Labels.{State, fresh, newHeld}
 use Rattle.meaning.specs.Room.{room}
 use Rattle.meaning.specs.Rows.{rows, compareValuations}
-use Rattle.meaning.specs.Runs.{Call, event, traceOf, run, given, stateAfter, heldAfter, rowLists, OrderlyFrom, finished, accepts, refuses, Orderly}
-use Rattle.meaning.specs.Runs.{Listed, Pairing, Dependent, Ordered}
+use Rattle.meaning.specs.Runs.{Call, event, traceOf, run, given, stateAfter, heldAfter, rowLists, OrderlyFrom, Orderly, Listed, Dependent, Ordered}
 
 pub listed-said : (tm : Tracematch) (t : List Event) (n : ℕ) (l : List Valuation)
     → Listed tm t n l ↔ ((ascending compareValuations l ≡ true) × ((σ : Valuation) → List·Memᴰ σ l ↔ Row tm t n σ))
@@ -72,14 +73,19 @@ pub orderly-said : (b : Book) (s : State) (e : Event) (cs : List Call)
     × (OrderlyFrom b s (event e true ∷ cs)
     ↔ ((wellFormed e ≡ true) × (s .number < 1000000) × (room b (s .held) e ≡ true) × OrderlyFrom b (Labels.next b s e) cs))
     × (OrderlyFrom b s (event e false ∷ cs) ↔ OrderlyFrom b s cs)
-orderly-said b s e cs = (refl, finished, (taken, λ (w, l, r, o). accepts w l r o), (left, refuses))
+orderly-said b s e cs = (
+  refl,
+  ended,
+  (taken, λ (w, l, r, o). called (λ _. record { formed = w; below = l; roomy = r }) o),
+  (left, λ o. called (λ h. absurd (false≢true h)) o),
+)
   where
     taken : OrderlyFrom b s (event e true ∷ cs)
         → (wellFormed e ≡ true) × (s .number < 1000000) × (room b (s .held) e ≡ true) × OrderlyFrom b (Labels.next b s e) cs
-    taken (accepts w l r o) = (w, l, r, o)
+    taken (called p o) = let a = p refl in (a .formed, a .below, a .roomy, o)
 
     left : OrderlyFrom b s (event e false ∷ cs) → OrderlyFrom b s cs
-    left (refuses o) = o
+    left (called p o) = o
 
 pub proper-said : (tm : Tracematch)
     → Proper tm

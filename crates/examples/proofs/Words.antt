@@ -14,9 +14,10 @@ use Rattle.fault.specs.Rules.{Rules}
 use Rattle.book.specs.Answers as Reading
 use Rattle.book.specs.Books.{reading}
 use Rattle.state.specs.States.{stateOf}
+use Rattle.runs.specs.Runs.{Within}
 use Rattle.calls.specs.Answers.{numberOf}
 use Rattle.calls.specs.Checks.{FirstFailing}
-use Rattle.calls.specs.Runs.{event, Made, make, runOf, acceptedIn, traceOf, Within, Delivered, Judged}
+use Rattle.calls.specs.Runs.{event, Made, make, runOf, acceptedIn, traceOf, Delivered, Judged}
 use Rattle.examples.specs.Starred.{Line, runs, late, reads, buffer, place, callOf, idle, backOf, outcome, wantedBack, wanted, Meant}
 
 -- a call lends the record and 49 bytes of 255, from the place 1 on; what comes back of it is number, count, bytes and tally

@@ -17,9 +17,10 @@ use Rattle.book.specs.Answers as Reading
 use Rattle.book.specs.Books.{reading}
 use Rattle.state.specs.declared.State.{State}
 use Rattle.state.specs.States.{stateOf}
+use Rattle.runs.specs.Runs.{Within}
 use Rattle.calls.specs.Answers.{numberOf}
 use Rattle.calls.specs.Checks.{FirstFailing}
-use Rattle.calls.specs.Runs.{Call, event, Made, make, runOf, acceptedIn, traceOf, Within, Delivered, Judged}
+use Rattle.calls.specs.Runs.{Call, event, Made, make, runOf, acceptedIn, traceOf, Delivered, Judged}
 
 -- "32-bit little-endian": a number in four bytes, the lowest first
 abbrev word : ℕ → Bytes

@@ -1,14 +1,20 @@
 -- `results`: from what the public calls hand back, and from nothing else, the demands. A text that `read` accepts has one list of declarations and
 -- one tree, and whatever event calls follow, each in the state that the one before it left, their results keep demands 2 and 3.
 use mathlib.Core.Path.{_≡_, refl, sym, ap, ap₂, subst, _∙_}
-use mathlib.Core.Bool.{true, false, _&&_, false≢true}
+use mathlib.Core.Bool.{true, false, not, false≢true}
 use mathlib.Core.List.{List, [], _∷_, map}
 use mathlib.Core.Logic.{_↔_}
 use Prim.Native.Nat.{ℕ, suc, _+_, _-_, _*_, _≤_, _<_}
 use native.Mathlib.Omega.{arith}
+use borrow.Author.Tests.{not-true, eqb-false}
+use lib.Dec.{eqb}
 use lib.ListN.{length, getD, take, drop}
 use lib.Seq.{getD-take, getD-drop}
-use Rattle.laws.proofs.Lists.{and-true-split}
+use Rattle.laws.specs.Checks.{FirstToFail, failsHere, failsLater}
+use Rattle.laws.proofs.Checks.{first-all}
+use Rattle.laws.proofs.Lists.{all-map, all-at}
+use Rattle.runs.specs.Runs.{Within}
+use Rattle.runs.proofs.Runs.{chain-run, run-chain, chain-all}
 use Rattle.pattern.specs.Regex.{Regex}
 use Rattle.meaning.specs.Events.{Event}
 use Rattle.meaning.specs.Meaning.{Tracematch}
@@ -23,8 +29,9 @@ use Rattle.book.specs.Books.{reading}
 use Rattle.state.specs.declared.State.{State}
 use Rattle.calls.specs.Answers.{numberOf}
 use Rattle.calls.specs.Calls.{freshState}
-use Rattle.calls.specs.Runs.{Lent, Call, event, Made, allBytes, make, runFrom, runOf, acceptedIn, recordsOf, traceOf, Within, Delivered, Judged}
-use Rattle.calls.specs.Runs.{outOfForm, tooMany, noRoom, noSpace, accepted, Partners, InOrder, Crossed}
+use Rattle.calls.specs.declared.EventAnswer.the-variants.{OutOfForm, TooMany, NoRoom, NoSpace}
+use Rattle.calls.specs.Runs.{Lent, Call, event, lentAt, Made, allBytes, make, watching, runFrom, runOf, acceptedIn, recordsOf, traceOf, Delivered}
+use Rattle.calls.specs.Runs.{FailsAfter, PassesAfter, Judged, Partners, InOrder, Crossed}
 use Rattle.demands.proofs.Checks.{fresh-state}
 use Rattle.demands.proofs.Listed.{listed}
 use Rattle.demands.proofs.Answered.{answered}
@@ -32,7 +39,7 @@ use Rattle.demands.proofs.Crossed.{listed-width, crossed}
 use Rattle.demands.proofs.RunWords.{crossed-words}
 use Rattle.promises.specs.Formats.{InRecord}
 use Rattle.promises.specs.ReadResults.{ReadGives}
-use Rattle.promises.specs.EventResults.{stateOfNothing, EventGives, Series, noCall, called, traceIn, RowsKept, RowsAlike, ResultsKeep}
+use Rattle.promises.specs.EventResults.{stateOfNothing, EventGives, Series, traceIn, RowsKept, RowsAlike, ResultsKeep}
 use Rattle.promises.proofs.Whether.{whether}
 use Rattle.promises.proofs.Formats.{event-read, record-read, rows-read}
 use Rattle.promises.proofs.ReadResults.{read-given, reading-decided}
@@ -53,19 +60,14 @@ made-one b s m g =
 
 -- calls one behind the other are a run, and what was lent to them is bytes
 series-run : (b : Book) (s : State) (ms : List Made) → Series b s ms → (ms ≡ runFrom b s (lentTo ms)) × (allBytes (lentTo ms) ≡ true)
-series-run b s [] noCall = (refl, refl)
-series-run b s (m ∷ ms) (called g c) =
-    let e = made-one b s m g in
-    let (x, y) = series-run b (m .taken .state) ms c in
-    (ap₂ _∷_ e (x ∙ ap (λ k. runFrom b (k .taken .state) (lentTo ms)) e), ap₂ _&&_ (g .lent) y)
+series-run b s ms c =
+    (chain-run (watching b) _ (λ m. event (m .lent)) (made-one b) s ms c, rw all-map (chain-all (λ m. isBytes (m .lent .bytes)) (λ s m g. g .lent) c))
 
 -- every list of calls has such results
 pub series-given : (b : Book) (s : State) (cs : List Call) → allBytes cs ≡ true → Series b s (runFrom b s cs)
 unfolding make
-series-given b s [] h = noCall
-series-given b s (event l ∷ cs) h =
-    let (x, y) = and-true-split (isBytes (l .bytes)) (allBytes cs) h in
-    called (event-given b s (l .bytes) (l .buffer) (l .place) (l .tally) x) (series-given b _ cs y)
+series-given b s cs h =
+    run-chain (watching b) _ s cs λ t c m. event-given b t _ _ _ _ (all-at (λ c. isBytes (lentAt c .bytes)) h m)
 
 -- demand 3's claim about two lists
 abbrev CrossedOn : Tracematch → List Made → List Made → Type 0
@@ -111,11 +113,14 @@ module _ (text : Bytes) (d : Declarations) (q : Regex) (f : Form text d q) where
 
   -- 10 is for what is no record, and for nothing else
   judged-ten : {t : List Event} {l : Lent} {n : ℕ} → Judged tmDeclared t l n → (n ≡ 10) ↔ (isRecord (l .bytes) ≡ false)
-  judged-ten (outOfForm h) = (λ _. h, λ _. refl)
-  judged-ten (tooMany h k) = (λ e. absurd (omega (arith, e)), λ e. absurd (false≢true (sym e ∙ h)))
-  judged-ten (noRoom h k b) = (λ e. absurd (omega (arith, e)), λ e. absurd (false≢true (sym e ∙ h)))
-  judged-ten (noSpace h k b s) = (λ e. absurd (omega (arith, e)), λ e. absurd (false≢true (sym e ∙ h)))
-  judged-ten (accepted h k b s) = (λ e. absurd (omega (arith, e)), λ e. absurd (false≢true (sym e ∙ h)))
+  judged-ten {t} {l} {n} j = go (j .first)
+    where
+      go : {n : ℕ} → FirstToFail (FailsAfter tmDeclared t l) (PassesAfter tmDeclared t l) numberOf 0 (OutOfForm ∷ TooMany ∷ NoRoom ∷ NoSpace ∷ []) n
+          → (n ≡ 10) ↔ (isRecord (l .bytes) ≡ false)
+      go (failsHere h) = (λ _. h, λ _. refl)
+      go {n} (failsLater h r) =
+          let other = first-all (λ n. not (eqb n 10)) r refl refl in
+          (λ e. absurd (eqb-false n 10 (not-true _ other) e), λ e. absurd (false≢true (sym e ∙ h)))
 
   ten-read : {t : List Event} {l : Lent} {n : ℕ} → Judged tmDeclared t l n → (n ≡ 10) ↔ (InRecord (l .bytes) → ⊥)
   ten-read {l = l} j = (

@@ -8,16 +8,17 @@ use Prim.Native.Nat.{ℕ, suc, _+_, _*_, _/_, _%_, _≤_, _<_}
 use lib.ListN.{length, getD, take, replicate}
 use Rattle.meaning.specs.Events.{Event, Valuation}
 use Rattle.meaning.specs.Meaning.{Tracematch}
+use Rattle.runs.specs.Runs.{noResult, result, Within}
 use Rattle.meaning.specs.Runs.{Listed, Ordered}
 use Rattle.form.specs.Text.{Bytes}
 use Rattle.book.specs.declared.Book.{Book}
 use Rattle.state.specs.declared.State.{State}
 use Rattle.calls.specs.Answers.{numberOf}
 use Rattle.calls.specs.Calls.{freshState}
-use Rattle.calls.specs.Runs.{Made, acceptedIn, recordsOf, Within, Judged, Partners}
+use Rattle.calls.specs.Runs.{Made, acceptedIn, recordsOf, Judged, Partners}
 use Rattle.demands.proofs.Checks.{fresh-state}
 use Rattle.promises.specs.Formats.{InRecord, eventOfBytes, WordAt, RowAt, RowsIn}
-use Rattle.promises.specs.EventResults.{stateOfNothing, TallyRises, EventGives, Series, noCall, called, traceIn, RowsKept, RowsAlike, ResultsKeep}
+use Rattle.promises.specs.EventResults.{stateOfNothing, TallyRises, EventGives, Series, traceIn, RowsKept, RowsAlike, ResultsKeep}
 
 -- "A fresh state has all 128 disjunct places free and event number 0."
 pub nothing-said : stateOfNothing
@@ -38,11 +39,11 @@ pub series-said : (b : Book) (s : State) (m : Made) (ms : List Made)
     → Series b s []
     × (Series b s (m ∷ ms)
     ↔ (EventGives b s (m .lent .bytes) (m .lent .buffer) (m .lent .place) (m .lent .tally) (m .taken) (m .buffer) × Series b (m .taken .state) ms))
-series-said b s m ms = (noCall, (parts, λ (g, r). called g r))
+series-said b s m ms = (noResult, (parts, λ (g, r). result g r))
   where
     parts : Series b s (m ∷ ms)
         → EventGives b s (m .lent .bytes) (m .lent .buffer) (m .lent .place) (m .lent .tally) (m .taken) (m .buffer) × Series b (m .taken .state) ms
-    parts (called g r) = (g, r)
+    parts (result g r) = (g, r)
 
 pub trace-in-said : (ms : List Made) → traceIn ms ≡ map eventOfBytes (recordsOf ms)
 trace-in-said ms = refl

@@ -8,6 +8,7 @@ use Prim.Native.Nat.{ℕ, suc, _+_, _-_, _*_, _^_, _≤_, _<_}
 use lib.ListN.{length, getD, take, replicate}
 use Rattle.laws.specs.Lists.{gather}
 use Rattle.laws.specs.Parts.{splice}
+use Rattle.runs.specs.Runs.{Chain, Within}
 use Rattle.meaning.specs.Events.{Event, Valuation}
 use Rattle.meaning.specs.Meaning.{Tracematch}
 use Rattle.meaning.specs.Labels.{newHeld}
@@ -26,7 +27,7 @@ use Rattle.calls.specs.declared.EventAnswer.the-variants.{Accepted, Unsound, Ou
 use Rattle.calls.specs.declared.Taken.{Taken}
 use Rattle.calls.specs.Answers.{numberOf}
 use Rattle.calls.specs.Checks.{FirstFailing}
-use Rattle.calls.specs.Runs.{Made, acceptedIn, recordsOf, Within, Judged, Partners}
+use Rattle.calls.specs.Runs.{Made, acceptedIn, recordsOf, Judged, Partners}
 use Rattle.promises.specs.Formats.{InRecord, eventOfBytes, RowsIn}
 
 -- n is the number, and p the place, of an event's answer: the table of "What a call hands back", 0 and 9 to 13
@@ -76,11 +77,9 @@ pub record EventGives (b : Book) (s : State) (bytes buffer : Bytes) (place : ℕ
       × (after ≡ splice place (gather (rowBytes (suc (s .number)) (b .variables)) l) buffer) × TallyRises t 1 0 (length l) (r .tally)
 
 -- event calls over one book, one behind the other from the state s: "Each call gets the state that the call before it returned or left"
-pub data Series (b : Book) : State → List Made → Type 0 where
-  noCall : {s : State} → Series b s []
-  called : {s : State} {m : Made} {ms : List Made}
-      → EventGives b s (m .lent .bytes) (m .lent .buffer) (m .lent .place) (m .lent .tally) (m .taken) (m .buffer) → Series b (m .taken .state) ms
-      → Series b s (m ∷ ms)
+abbrev pub Series : Book → State → List Made → Type 0
+Series b s ms =
+    Chain (λ s m. EventGives b s (m .lent .bytes) (m .lent .buffer) (m .lent .place) (m .lent .tally) (m .taken) (m .buffer)) (λ m. m .taken .state) s ms
 
 -- the events of the accepted calls, from the bytes that were lent
 abbrev pub traceIn : List Made → List Event

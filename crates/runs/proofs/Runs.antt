@@ -1,13 +1,15 @@
 -- Laws of runs: each result is that of its call in the state behind those before it, what every call keeps holds in every state, and one machine
 -- follows another call by call.
-use mathlib.Core.Path.{_≡_, refl, sym, ap, subst, _∙_}
+use mathlib.Core.Path.{_≡_, refl, sym, ap, ap₂, subst, _∙_}
+use mathlib.Core.Bool.{Bool, true, _&&_}
 use mathlib.Core.List.{List, [], _∷_, _++_, map, List·Memᴰ, List·Memᴰ·head, List·Memᴰ·tail}
 use Prim.Native.Nat.{ℕ, zero, suc, _<_, suc-le-suc}
 use native.Mathlib.Nat.{not-suc-le-zero, le-of-suc-le-suc}
 use native.Mathlib.Omega.{arith}
 use lib.ListN.{length, take, getD, length-map}
+use Rattle.laws.specs.Lists.{all}
 use Rattle.laws.proofs.Lists.{mem-getD, mem-index}
-use Rattle.runs.specs.Runs.{Machine, resultsFrom, stateFrom, Along, ended, called, behindTrace, Within}
+use Rattle.runs.specs.Runs.{Machine, resultsFrom, stateFrom, Along, ended, called, Chain, noResult, result, behindTrace, Within}
 
 -- the state behind one trace and then another
 pub behind-more : {S E : Type 0} (step : S → E → S) (s : S) (t u : List E) → behindTrace step s (t ++ u) ≡ behindTrace step (behindTrace step s t) u
@@ -104,3 +106,22 @@ pub followed : {S C R T D Q : Type 0} (m : Machine S C R) (k : Machine T D Q) (t
 followed m k to Like keeps s t h [] p = h
 followed m k to Like keeps s t h (c ∷ cs) p =
     followed m k to Like keeps _ _ (keeps s t h c (p c (List·Memᴰ·head refl))) cs (λ d n. p d (List·Memᴰ·tail n))
+
+-- Results one behind the other, of which each is the machine's, are a run of it; and a run is such a chain.
+module _ {S C R : Type 0} (m : Machine S C R) (P : S → R → Type 0) where
+  pub chain-run : (to : R → C) → ((s : S) (r : R) → P s r → r ≡ m .gives s (to r)) → (s : S) (rs : List R) → Chain P (m .leaves) s rs
+      → rs ≡ resultsFrom m s (map to rs)
+  chain-run to one s [] noResult = refl
+  chain-run to one s (r ∷ rs) (result p c) =
+      let e = one s r p in
+      ap₂ _∷_ e (chain-run to one (m .leaves r) rs c ∙ ap (λ q. resultsFrom m (m .leaves q) (map to rs)) e)
+
+  pub run-chain : (s : S) (cs : List C) → ((t : S) (c : C) → List·Memᴰ c cs → P t (m .gives t c)) → Chain P (m .leaves) s (resultsFrom m s cs)
+  run-chain s [] each = noResult
+  run-chain s (c ∷ cs) each = result (each s c (List·Memᴰ·head refl)) (run-chain (m .leaves (m .gives s c)) cs (λ t d n. each t d (List·Memᴰ·tail n)))
+
+-- what each tells is true of all
+pub chain-all : {S R : Type 0} {P : S → R → Type 0} {leaves : R → S} (f : R → Bool) → ((s : S) (r : R) → P s r → f r ≡ true)
+    → {s : S} {rs : List R} → Chain P leaves s rs → all f rs ≡ true
+chain-all f each noResult = refl
+chain-all f each {s} (result {r = r} p c) = ap₂ _&&_ (each s r p) (chain-all f each c)
