@@ -97,6 +97,10 @@ module _ (s : Bytes) where
   fault-number q n (missingLF _ _ _) = omega arith
   fault-number q n (after _ _ _ _ _ _) = omega arith
 
+  -- no number is smaller than 2
+  pub two-least : (p : ℕ) → Clean s p → Fault s p 2 → Least s p 2
+  two-least p c f = least-of p 2 c f (fault-number p)
+
   -- the word `match` has five bytes
   pub match-end : {k i p : ℕ} → Word s k i p → wordAt s p ≡ matchWord → wordEnd s p ≡ p + 5
   match-end {p = p} w e =
