@@ -1,5 +1,5 @@
 -- Where the course stops before the pattern, the least fault stands; and what is known where it comes to the word `match`.
--- By HeaderFacts: no fault stands before the place; by LeastFaults: none there has a smaller number; here, the fault at the place.
+-- By HeaderFacts: no fault stands before the place; by LeastFaults: no number there comes before its own; here, the fault at the place.
 use mathlib.Core.Path.{_≡_, refl, sym, ap, _∙_}
 use mathlib.Core.Bool.{Bool, true, false, true≢false, false≢true}
 use mathlib.Core.List.{List, [], _++_, append-nil}
@@ -108,7 +108,7 @@ module _ (s : Bytes) where
   match-clean {k} {p} m x c q n l f =
       which q p (λ b. c q n b f) (λ e. x (match-fault s k p n m (rw e at f))) (λ b. match-inside m q n b l f)
 
-  -- a name that the course does not take has the fault that it gives, and none with a smaller number
+  -- a name that the course does not take has the fault that it gives, and none that comes before it
   declared-least : {p k i n : ℕ} (xs : List Span) → Word s k i (p + 1) → Header s k → Clean s (p + 1) → Declares k i → Lists s Declares p xs
       → Declaring s xs (p + 1) n → (n ≡ 0 → ⊥) → Least s (p + 1) n
   declared-least xs v h c d y (Declaring.fresh a b e) z = absurd (z refl)

@@ -2,6 +2,7 @@
 -- the least fault, 7, 8, or 0.
 use mathlib.Core.Path.{_≡_, refl, sym, ap, _∙_}
 use mathlib.Core.Bool.{Bool, true, false, true≢false}
+use mathlib.Core.List.{List·Memᴰ}
 use mathlib.Core.Logic.{_↔_, _⊎_, inl, inr, ⊎-elim}
 use Prim.Native.Nat.{ℕ, _+_, _≤_, _<_}
 use native.Mathlib.Omega.{arith}
@@ -22,8 +23,9 @@ use Rattle.parsing.proofs.Outcomes.{Whole, known, patternOf, bindsAll, outcome}
 use Rattle.book.specs.Answers.{numberOf, placeOf}
 use Rattle.book.specs.Books.{reading}
 use Rattle.book.proofs.Bench as Bench
-use Rattle.fault.specs.Fault.{Fault, Least, NoFault}
+use Rattle.fault.specs.Fault.{Fault, faultNumbers, faultRank, Least, NoFault}
 use Rattle.fault.specs.Rules.{AdmitsEmpty, LeavesUnbound, Rules}
+use Rattle.fault.proofs.Ranks.{listed-range, not-listed, same-rank}
 use Rattle.least.proofs.HeaderPrefix.{Ready}
 use Rattle.least.proofs.HeaderCourse.{lines-stop, lines-matched}
 use Rattle.least.proofs.HeaderFaults.{header-stop-least, matched-ready}
@@ -51,7 +53,7 @@ module _ (s : Bytes) (bytes : isBytes s ≡ true) where
 
   -- the number and the place of a refusal before the words are judged: the least fault
   abbrev Judged : (number place : ℕ) → Type 0
-  Judged n p = 2 ≤ n → n ≤ 6 → Least s p n
+  Judged n p = List·Memᴰ n faultNumbers → Least s p n
 
   abbrev JudgedOutcome : Outcome → Type 0
   JudgedOutcome o = Judged (o .number) (o .place)
@@ -63,7 +65,7 @@ module _ (s : Bytes) (bytes : isBytes s ≡ true) where
   -- a step with a fault that is the least
   step-judged : (m : Parsed) → ((m .step .fault ≡ 0 → ⊥) → Least s (m .step .place) (m .step .fault)) → JudgedPattern m
   step-judged m f =
-      either JudgedOutcome (eqb (m .step .fault) 0) (λ _ h. absurd (omega arith)) (λ e _ _. f (eqb-false _ _ e))
+      either JudgedOutcome (eqb (m .step .fault) 0) (λ _ h. absurd (not-listed refl h)) (λ e _. f (eqb-false _ _ e))
 
   pattern-least : length s ≤ textLimit → linesOf s .step .fault ≡ 0 → at s behind ≡ space → (patternOf s .step .fault ≡ 0 → ⊥)
       → Least s (patternOf s .step .place) (patternOf s .step .fault)
@@ -79,10 +81,10 @@ module _ (s : Bytes) (bytes : isBytes s ≡ true) where
       let a = patternOf s in
       either JudgedPattern (eqb (at s behind) space)
       (λ g. either JudgedPattern (eqb (a .step .fault) 0)
-      (λ _. either JudgedPattern (nullable (a .tree)) (λ _ _ h. absurd (omega arith))
-      λ _. either JudgedPattern (bindsAll s) (λ _. step-judged a (pattern-least short l (eqb-true _ _ g))) λ _ _ h. absurd (omega arith))
+      (λ _. either JudgedPattern (nullable (a .tree)) (λ _ h. absurd (not-listed refl h))
+      λ _. either JudgedPattern (bindsAll s) (λ _. step-judged a (pattern-least short l (eqb-true _ _ g))) λ _ h. absurd (not-listed refl h))
       λ _. step-judged a (pattern-least short l (eqb-true _ _ g)))
-      λ g _ _. space-least s bytes _ behind (ready l) (eqb-false _ _ g)
+      λ g _. space-least s bytes _ behind (ready l) (eqb-false _ _ g)
 
   judged : length s ≤ textLimit → JudgedOutcome (readingOf s)
   unfolding readingOf
@@ -90,17 +92,17 @@ module _ (s : Bytes) (bytes : isBytes s ≡ true) where
       let l = linesOf s in
       either JudgedOutcome (ltb textLimit (length s)) (λ e. absurd (omega (arith, ltb-true textLimit (length s) e)))
       λ _. either JudgedOutcome (eqb (l .step .fault) 0) (λ f. match-judged short (eqb-true _ _ f))
-      λ f _ _. header-stop-least s bytes _ _ (lines-stop s bytes (eqb-false _ _ f))
+      λ f _. header-stop-least s bytes _ _ (lines-stop s bytes (eqb-false _ _ f))
 
   -- two least faults are one
   same-least : (p n q m : ℕ) → Least s p n → Least s q m → (n ≡ m) × (p ≡ q)
   same-least p n q m a b = by (a .least q m (b .fault)) (b .least p n (a .fault))
     where
-      by : (p < q) ⊎ ((p ≡ q) × (n ≤ m)) → (q < p) ⊎ ((q ≡ p) × (m ≤ n)) → (n ≡ m) × (p ≡ q)
+      by : (p < q) ⊎ ((p ≡ q) × (faultRank n ≤ faultRank m)) → (q < p) ⊎ ((q ≡ p) × (faultRank m ≤ faultRank n)) → (n ≡ m) × (p ≡ q)
       by (inl x) (inl y) = absurd (omega arith)
       by (inl x) (inr y) = absurd (omega (arith, y .0))
       by (inr x) (inl y) = absurd (omega (arith, x .0))
-      by (inr x) (inr y) = (omega (arith, x .1, y .1), x .0)
+      by (inr x) (inr y) = (same-rank (a .fault) (b .fault) (omega (arith, x .1, y .1)), x .0)
 
   abbrev number : ℕ
   number = readingOf s .number
@@ -120,12 +122,12 @@ module _ (s : Bytes) (bytes : isBytes s ≡ true) where
   none-of : (number ≡ 0) ⊎ (7 ≤ number) → NoFault s
   none-of h = whole-none (known s .whole h)
 
-  -- a text with a fault that is not too long: the number is one of 2 to 6
-  fault-range : (q m : ℕ) → length s ≤ textLimit → Fault s q m → (2 ≤ number) × (number ≤ 6)
-  fault-range q m short f = by (ltb number 2) (ltb 6 number) refl refl
+  -- a text with a fault that is not too long: the number is one of the faults'
+  number-listed : (q m : ℕ) → length s ≤ textLimit → Fault s q m → List·Memᴰ number faultNumbers
+  number-listed q m short f = by (ltb number 2) (ltb 6 number) refl refl
     where
-      by : (a b : Bool) → ltb number 2 ≡ a → ltb 6 number ≡ b → (2 ≤ number) × (number ≤ 6)
-      by false false e g = (ltb-false number 2 e, ltb-false 6 number g)
+      by : (a b : Bool) → ltb number 2 ≡ a → ltb 6 number ≡ b → List·Memᴰ number faultNumbers
+      by false false e g = listed-range number .1 (ltb-false number 2 e, ltb-false 6 number g)
       by a true e g = absurd (none-of (inr (ltb-true 6 number g)) q m f)
       by true false e g = absurd (low (eqb number 0) refl)
         where
@@ -135,10 +137,10 @@ module _ (s : Bytes) (bytes : isBytes s ≡ true) where
               let one : number ≡ 1 = omega (arith, ltb-true number 2 e, eqb-false number 0 i) in
               omega (arith, Accepted.too-long s .0 one)
 
-  fault-rule : (m q : ℕ) → 2 ≤ m → m ≤ 6 → ((number ≡ m) × (place ≡ q)) ↔ ((length s ≤ textLimit) × Least s q m)
-  fault-rule m q low high = (
-    λ (e, f). let short = short-of (λ o. omega arith) in (short, rw (e, f) at (judged short (omega arith) (omega arith))),
-    λ (short, l). let (a, b) = fault-range q m short (l .fault) in same-least place number q m (judged short a b) l,
+  fault-rule : (m q : ℕ) → List·Memᴰ m faultNumbers → ((number ≡ m) × (place ≡ q)) ↔ ((length s ≤ textLimit) × Least s q m)
+  fault-rule m q a = (
+    λ (e, f). let short = short-of (λ o. omega (arith, listed-range m .0 a)) in (short, rw (e, f) at (judged short (rw e a))),
+    λ (short, l). same-least place number q m (judged short (number-listed q m short (l .fault))) l,
   )
 
   -- 7 and 8: the words of the one pattern that the text writes
@@ -167,7 +169,7 @@ module _ (s : Bytes) (bytes : isBytes s ≡ true) where
           low false i =
               let one : number ≡ 1 = omega (arith, ltb-true number 2 e, eqb-false number 0 i) in
               absurd (omega (arith, Accepted.too-long s .0 one))
-      by false false e g = absurd (none place number (judged short (ltb-false number 2 e) (ltb-false 6 number g) .fault))
+      by false false e g = absurd (none place number (judged short (listed-range number .1 (ltb-false number 2 e, ltb-false 6 number g)) .fault))
       by false true e g = high (eqb number 7) refl
         where
           high : (c : Bool) → eqb number 7 ≡ c → number ≡ 0
