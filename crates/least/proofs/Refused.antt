@@ -3,8 +3,9 @@
 use mathlib.Core.Path.{_≡_, refl, sym, ap, _∙_}
 use mathlib.Core.Bool.{Bool, true, false, true≢false}
 use mathlib.Core.List.{List·Memᴰ}
-use mathlib.Core.Logic.{_↔_, _⊎_, inl, inr, ⊎-elim}
+use mathlib.Core.Logic.{_↔_, _⊎_, inl, inr, ⊎-elim, dite}
 use Prim.Native.Nat.{ℕ, _+_, _≤_, _<_}
+use native.Mathlib.Decide.{ℕ-discrete}
 use native.Mathlib.Omega.{arith}
 use borrow.Author.Tests.{eqb-true, eqb-false, eq-eqb, ltb-false, ltb-true}
 use lib.Dec.{eqb, ltb}
@@ -122,24 +123,34 @@ module _ (s : Bytes) (bytes : isBytes s ≡ true) where
   none-of : (number ≡ 0) ⊎ (7 ≤ number) → NoFault s
   none-of h = whole-none (known s .whole h)
 
-  -- a text with a fault that is not too long: the number is one of the faults'
+  -- the number is a fault's, or 0, 1, 7 or 8
+  abbrev Numbered : Type 0
+  Numbered = List·Memᴰ number faultNumbers ⊎ ((number ≡ 0) ⊎ ((number ≡ 1) ⊎ ((number ≡ 7) ⊎ (number ≡ 8))))
+
+  which-number : Numbered
+  which-number =
+      let most = Accepted.number-range s in
+      dite (ℕ-discrete number 0) (λ e. inr (inl e)) λ a. dite (ℕ-discrete number 1) (λ e. inr (inr (inl e)))
+      λ b. dite (ℕ-discrete number 7) (λ e. inr (inr (inr (inl e)))) λ c. dite (ℕ-discrete number 8) (λ e. inr (inr (inr (inr e))))
+      λ d. inl (listed-range number .1 (omega arith, omega arith))
+
+  not-one : length s ≤ textLimit → number ≡ 1 → ⊥
+  not-one short e = omega (arith, Accepted.too-long s .0 e)
+
+  -- a text with a fault that is not too long: the number is a fault's
   number-listed : (q m : ℕ) → length s ≤ textLimit → Fault s q m → List·Memᴰ number faultNumbers
-  number-listed q m short f = by (ltb number 2) (ltb 6 number) refl refl
+  number-listed q m short f = by which-number
     where
-      by : (a b : Bool) → ltb number 2 ≡ a → ltb 6 number ≡ b → List·Memᴰ number faultNumbers
-      by false false e g = listed-range number .1 (ltb-false number 2 e, ltb-false 6 number g)
-      by a true e g = absurd (none-of (inr (ltb-true 6 number g)) q m f)
-      by true false e g = absurd (low (eqb number 0) refl)
-        where
-          low : (c : Bool) → eqb number 0 ≡ c → ⊥
-          low true i = none-of (inl (eqb-true number 0 i)) q m f
-          low false i =
-              let one : number ≡ 1 = omega (arith, ltb-true number 2 e, eqb-false number 0 i) in
-              omega (arith, Accepted.too-long s .0 one)
+      by : Numbered → List·Memᴰ number faultNumbers
+      by (inl a) = a
+      by (inr (inl e)) = absurd (none-of (inl e) q m f)
+      by (inr (inr (inl e))) = absurd (not-one short e)
+      by (inr (inr (inr (inl e)))) = absurd (none-of (inr (omega arith)) q m f)
+      by (inr (inr (inr (inr e)))) = absurd (none-of (inr (omega arith)) q m f)
 
   fault-rule : (m q : ℕ) → List·Memᴰ m faultNumbers → ((number ≡ m) × (place ≡ q)) ↔ ((length s ≤ textLimit) × Least s q m)
   fault-rule m q a = (
-    λ (e, f). let short = short-of (λ o. omega (arith, listed-range m .0 a)) in (short, rw (e, f) at (judged short (rw e a))),
+    λ (e, f). let short = short-of (λ o. not-listed refl (rw (sym e ∙ o) at a)) in (short, rw (e, f) at (judged short (rw e a))),
     λ (short, l). same-least place number q m (judged short (number-listed q m short (l .fault))) l,
   )
 
@@ -159,25 +170,14 @@ module _ (s : Bytes) (bytes : isBytes s ≡ true) where
 
   -- no number else is left
   zero-of : length s ≤ textLimit → NoFault s → (AdmitsEmpty s → ⊥) → (LeavesUnbound s → ⊥) → number ≡ 0
-  zero-of short none empty unbound = by (ltb number 2) (ltb 6 number) refl refl
+  zero-of short none empty unbound = by which-number
     where
-      by : (a b : Bool) → ltb number 2 ≡ a → ltb 6 number ≡ b → number ≡ 0
-      by true b e g = low (eqb number 0) refl
-        where
-          low : (c : Bool) → eqb number 0 ≡ c → number ≡ 0
-          low true i = eqb-true number 0 i
-          low false i =
-              let one : number ≡ 1 = omega (arith, ltb-true number 2 e, eqb-false number 0 i) in
-              absurd (omega (arith, Accepted.too-long s .0 one))
-      by false false e g = absurd (none place number (judged short (listed-range number .1 (ltb-false number 2 e, ltb-false 6 number g)) .fault))
-      by false true e g = high (eqb number 7) refl
-        where
-          high : (c : Bool) → eqb number 7 ≡ c → number ≡ 0
-          high true i = absurd (empty (Accepted.seven s .0 (eqb-true number 7 i)))
-          high false i =
-              let eight : number ≡ 8 = omega (arith, ltb-true 6 number g, eqb-false number 7 i, Accepted.number-range s) in
-              let (d, r, f, n, u) = Accepted.eight s .0 eight in
-              absurd (unbound (d, r, f, u))
+      by : Numbered → number ≡ 0
+      by (inl a) = absurd (none place number (judged short a .fault))
+      by (inr (inl e)) = e
+      by (inr (inr (inl e))) = absurd (not-one short e)
+      by (inr (inr (inr (inl e)))) = absurd (empty (Accepted.seven s .0 e))
+      by (inr (inr (inr (inr e)))) = let (d, r, f, n, u) = Accepted.eight s .0 e in absurd (unbound (d, r, f, u))
 
   none-rule : ((number ≡ 0) × (place ≡ 0)) ↔ ((length s ≤ textLimit) × NoFault s × (AdmitsEmpty s → ⊥) × (LeavesUnbound s → ⊥))
   none-rule = (
