@@ -3,7 +3,7 @@
 use mathlib.Core.Path.{_≡_, refl}
 use mathlib.Core.Bool.{true, false}
 use mathlib.Core.List.{List, [], _∷_, _++_, List·Memᴰ}
-use mathlib.Core.Logic.{_↔_, _⊎_}
+use mathlib.Core.Logic.{_↔_, _⊎_, inl, inr, ⊎-elim}
 use Prim.Native.Nat.{ℕ, _+_, _≤_, _<_}
 use lib.ListN.{length}
 use Rattle.laws.specs.Lists.{any, all}
@@ -19,6 +19,7 @@ use Rattle.fault.specs.Places.{On, Ends, spotAt, Word, wordAt, NoMatch, Header,
 use Rattle.fault.specs.Places.{occurrences, signs, Pattern, Begins}
 use Rattle.fault.specs.Fault.{isNameForm, VariableNamed, SymbolNamed, Fault, Least, NoFault}
 use Rattle.fault.specs.Rules.{AdmitsEmpty, LeavesUnbound, Rules}
+use Rattle.fault.proofs.Ranks.{listed-range, rank-order}
 use Rattle.least.proofs.Sites.{Clean}
 use Rattle.least.proofs.Located.{Goes}
 use Rattle.least.proofs.Right.{NameFormed}
@@ -41,7 +42,10 @@ formed-said w = refl
 
 -- "1 first; then the earliest place; at one place the smaller number; 7, then 8, after everything": what `refused` says, whole
 pub least-words : (s : Bytes) (p n : ℕ) → Least s p n ↔ (Fault s p n × ((q m : ℕ) → Fault s q m → (p < q) ⊎ ((p ≡ q) × (n ≤ m))))
-least-words s p n = (λ l. (l .fault, l .least), λ (f, l). record { fault = f; least = l })
+least-words s p n = (
+  λ l. (l .fault, λ q m g. ⊎-elim inl (λ (e, h). inr (e, rank-order (l .fault) g .1 h)) (l .least q m g)),
+  λ (f, l). record { fault = f; least = λ q m g. ⊎-elim inl (λ (e, h). inr (e, rank-order f g .0 h)) (l q m g) },
+)
 
 pub faultless-said : (s : Bytes) → NoFault s ≡ ((p n : ℕ) → Fault s p n → ⊥)
 faultless-said s = refl
@@ -64,8 +68,8 @@ pub rules-words : (s : Bytes) (p n : ℕ)
     × ((d : Declarations) (r : Regex) (f : Shape s d r) → (n ≡ 7) ⊎ (n ≡ 8) → p ≡ length (header d) + 6 + run isSpace (f .written))
     × (((n ≡ 0) × (p ≡ 0)) ↔ ((length s ≤ 4096) × NoFault s × (AdmitsEmpty s → ⊥) × (LeavesUnbound s → ⊥))))
 rules-words s p n = (
-  λ r. (r .long, r .fault, r .seven, r .eight, r .first, r .none),
-  λ (a, b, c, d, e, f). record { long = a; fault = b; seven = c; eight = d; first = e; none = f },
+  λ r. (r .long, λ m q low high. r .fault m q (listed-range m .1 (low, high)), r .seven, r .eight, r .first, r .none),
+  λ (a, b, c, d, e, f). record { long = a; fault = λ m q x. let (low, high) = listed-range m .0 x in b m q low high; seven = c; eight = d; first = e; none = f },
 )
 
 -- no other number than 0 to 8

@@ -18,6 +18,7 @@ use Rattle.fault.specs.Places.{spotAt, Word, NoMatch, PatternLine}
 use Rattle.fault.specs.Fault.{Declares, WordFault, Fault, Least, NoFault}
 use Rattle.fault.specs.Fault as F
 use Rattle.fault.specs.Rules.{AdmitsEmpty, Rules}
+use Rattle.fault.proofs.Ranks.{not-listed, rank-order}
 
 -- no line stands between line 0 and line 1
 none-before : {s : Bytes} (k : ℕ) → k ≤ 1 → NoMatch s k
@@ -125,7 +126,7 @@ free-space n (F.after i x o e l g) = let f : i ≡ 11 = omega arith in omega (ar
 
 -- "at one place the smaller number"
 pub smaller-first : {s : Bytes} {p n m : ℕ} → Least s p n → Fault s p m → n ≤ m
-smaller-first {p = p} {n = n} {m = m} l f = ⊎-elim (λ x. absurd (omega arith)) (λ x. omega (arith, x .1)) (l .least p m f)
+smaller-first {p = p} {m = m} l f = ⊎-elim (λ x. absurd (omega arith)) (λ x. rank-order (l .fault) f .1 (x .1)) (l .least p m f)
 
 -- "7, then 8": a text that admits the empty word gets 7, whatever its words leave unbound
 pub seven-first : {s : Bytes} {p : ℕ} → length s ≤ textLimit → NoFault s → AdmitsEmpty s
@@ -133,7 +134,7 @@ pub seven-first : {s : Bytes} {p : ℕ} → length s ≤ textLimit → NoFault s
 seven-first short none empty first =
     record {
       long = (λ (e, f). absurd (omega arith), λ h. absurd (omega arith));
-      fault = λ m q low high. (λ (e, f). absurd (omega arith), λ (h, l). absurd (none q m (l .fault)));
+      fault = λ m q a. (λ (e, f). absurd (not-listed {n = 7} refl (rw e a)), λ (h, l). absurd (none q m (l .fault)));
       seven = (λ e. (short, none, empty), λ h. refl);
       eight = (λ e. absurd (omega arith), λ (h, g, n, u). absurd (search (n, empty)));
       first = λ d r f h. first d r f;

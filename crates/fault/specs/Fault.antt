@@ -1,11 +1,12 @@
--- `Fault s q n`: the text s has the fault n (2 to 6) at place q, by one sentence of document 01 ("The book"; "What a call hands back",
--- Reading) for each constructor. `Least`: "the earliest place; at one place the smaller number". "A book is ASCII text" has none of its
--- own: a word or token with a byte from 128 on is one of notVars, notSym, noName, noKind, noArgument, misplaced, or stands in excess.
+-- `Fault s q n`: the text s has the fault n (one of `faultNumbers`) at place q, by one sentence of document 01 ("The book"; "What a call
+-- hands back", Reading) for each constructor. `Least`: "the earliest place; at one place the smaller number". "A book is ASCII text" has none
+-- of its own: a word or token with a byte from 128 on is one of notVars, notSym, noName, noKind, noArgument, misplaced, or stands in excess.
 use mathlib.Core.Path.{_≡_}
-use mathlib.Core.Bool.{Bool, true, false, _&&_}
-use mathlib.Core.List.{[], _∷_, _++_}
+use mathlib.Core.Bool.{Bool, true, false, cond, _&&_}
+use mathlib.Core.List.{List, [], _∷_, _++_}
 use mathlib.Core.Logic.{_⊎_}
 use Prim.Native.Nat.{ℕ, suc, _+_, _≤_, _<_}
+use lib.Dec.{eqb}
 use lib.ListN.{length}
 use Rattle.laws.specs.Lists.{all}
 use Rattle.pattern.specs.Positions.{occurrenceLimit}
@@ -108,10 +109,23 @@ pub data Fault (s : Bytes) (q : ℕ) : ℕ → Type 0 where
   -- "Nothing follows it."
   after : {k p : ℕ} (e : ℕ) → PatternLine s k p → On s k e → at s e ≡ lf → e + 1 < length s → q ≡ e + 1 → Fault s q 2
 
+-- "at one place the smaller number": the numbers of faults, at one place the first of them first
+abbrev pub faultNumbers : List ℕ
+faultNumbers = 2 ∷ 3 ∷ 4 ∷ 5 ∷ 6 ∷ []
+
+-- how many numbers of a list stand before the first n: all of them where n is not in it
+abbrev pub rankIn : List ℕ → ℕ → ℕ
+rankIn [] n = 0
+rankIn (m ∷ l) n = let r = suc (rankIn l n) in cond (eqb m n) 0 r
+
+-- how many of the numbers of faults stand before n
+abbrev pub faultRank : ℕ → ℕ
+faultRank n = rankIn faultNumbers n
+
 -- "the earliest place; at one place the smaller number"
 pub record Least (s : Bytes) (p n : ℕ) : Type 0 where
   pub fault : Fault s p n
-  pub least : (q m : ℕ) → Fault s q m → (p < q) ⊎ ((p ≡ q) × (n ≤ m))
+  pub least : (q m : ℕ) → Fault s q m → (p < q) ⊎ ((p ≡ q) × (faultRank n ≤ faultRank m))
 
 abbrev pub NoFault : Bytes → Type 0
 NoFault s = (p n : ℕ) → Fault s p n → ⊥

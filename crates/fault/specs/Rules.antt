@@ -2,7 +2,7 @@
 -- the pattern's first token." `Rules s p n`: the place p and the number n are what these rules give for the text s.
 use mathlib.Core.Path.{_≡_}
 use mathlib.Core.Bool.{false}
-use mathlib.Core.List.{List, []}
+use mathlib.Core.List.{List, [], List·Memᴰ}
 use mathlib.Core.Logic.{_↔_, _⊎_}
 use Prim.Native.Nat.{ℕ, _+_, _≤_, _<_}
 use lib.ListN.{length}
@@ -12,7 +12,7 @@ use Rattle.form.specs.Text.{Bytes, matchWord, Declarations, header}
 use Rattle.form.specs.Limits.{textLimit}
 use Rattle.form.specs.Form.{Shape, binds}
 use Rattle.form.specs.Scan.{run, isSpace}
-use Rattle.fault.specs.Fault.{Least, NoFault}
+use Rattle.fault.specs.Fault.{faultNumbers, Least, NoFault}
 
 -- the empty word is a word of the text's pattern
 abbrev pub AdmitsEmpty : Bytes → Type 0
@@ -27,8 +27,8 @@ LeavesUnbound s =
 pub record Rules (s : Bytes) (p n : ℕ) : Type 0 where
   -- 1 at the limit, iff the text is longer
   pub long : ((n ≡ 1) × (p ≡ textLimit)) ↔ (textLimit < length s)
-  -- 2 to 6, iff this is the least fault of a text that is not
-  pub fault : (m q : ℕ) → 2 ≤ m → m ≤ 6 → ((n ≡ m) × (p ≡ q)) ↔ ((length s ≤ textLimit) × Least s q m)
+  -- the number of a fault, iff this is the least fault of a text that is not
+  pub fault : (m q : ℕ) → List·Memᴰ m faultNumbers → ((n ≡ m) × (p ≡ q)) ↔ ((length s ≤ textLimit) × Least s q m)
   -- 7, iff there is no fault and the empty word is admitted
   pub seven : (n ≡ 7) ↔ ((length s ≤ textLimit) × NoFault s × AdmitsEmpty s)
   -- 8, iff none of these and some word leaves a variable unbound

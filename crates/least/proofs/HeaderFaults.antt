@@ -1,5 +1,5 @@
 -- Where the course stops before the pattern, the least fault stands; and what is known where it comes to the word `match`.
--- By HeaderFacts: no fault stands before the place; here, the fault at the place and that none there has a smaller number.
+-- By HeaderFacts: no fault stands before the place; by LeastFaults: no number there comes before its own; here, the fault at the place.
 use mathlib.Core.Path.{_≡_, refl, sym, ap, _∙_}
 use mathlib.Core.Bool.{Bool, true, false, true≢false, false≢true}
 use mathlib.Core.List.{List, [], _++_, append-nil}
@@ -20,10 +20,12 @@ use Rattle.parsing.proofs.TokenScan.{inside-of}
 use Rattle.fault.specs.Places.{spotAt, Word, wordAt, Header, PatternLine}
 use Rattle.fault.specs.Fault.{WordFault, Declares, IsArgument, VariableNamed, SymbolNamed, Fault, Least}
 use Rattle.least.proofs.Spots.{spot-zero, spot-step, spot-later, word-end, word-bytes, word-spot, word-same, word-before}
-use Rattle.least.proofs.Sites.{Clean, least-of, fault-number, match-end, word-fault, match-fault}
+use Rattle.least.proofs.Sites.{Clean, two-least, match-end, match-fault}
 use Rattle.least.proofs.HeaderPrefix.{HeaderStop, Matched, Ready}
 use Rattle.least.proofs.WordLaws.{Among, Declaring, declaring, Arguing, arguing, kind-none}
-use Rattle.least.proofs.WordFaults.{Stood, NoVariable, IsExcess, first-wrong, name-wrong, argument-wrong, excess-wrong}
+use Rattle.least.proofs.WordFaults.{Stood, NoVariable}
+use Rattle.least.proofs.LeastFaults.{seventeenth-least, long-name-least, already-least, long-argument-least}
+use Rattle.least.proofs.LeastFaults.{undeclared-argument-least, excess-least}
 use Rattle.least.proofs.HeaderFacts.{IsSymbol, Lists, HeaderFacts, which, lists-joined, on, gap-word, gap-clean, gap-passed}
 use Rattle.least.proofs.HeaderFacts.{line-spot, line-clean, line-header, line-word, header-facts}
 
@@ -41,16 +43,6 @@ decided : {A : Type 0} (m n : ℕ) → (m < n) ↔ A → A ⊎ (A → ⊥)
 decided m n x = dite (decLt m n) (λ h. inl (x .0 h)) λ h. inr λ a. h (x .1 a)
 
 module _ (s : Bytes) where
-  -- no number is smaller than 2
-  two : (p : ℕ) → Clean s p → Fault s p 2 → Least s p 2
-  two p c f = least-of s p 2 c f (fault-number s p)
-
-  -- a word with which something is wrong
-  wrong : {k i p n : ℕ} → Word s k i p → Header s k → Clean s p → WordFault s k i p n → ((m : ℕ) → WordFault s k i p m → n ≤ m)
-      → Least s p n
-  wrong {k} {i} {p} {n} v h c x y =
-      least-of s p n c (Fault.word v h x) λ m f. y m (word-fault s k p m (ap (λ z. z .line) (v .spot)) h f i v)
-
   -- at the text's beginning, where the first word is not `vars`
   first-fault : (wordAt s 0 ≡ varsWord → ⊥) → Fault s 0 2
   first-fault x = which 0 (length s) inside (λ e. end (inr e)) (λ l. absurd (omega arith))
@@ -116,17 +108,15 @@ module _ (s : Bytes) where
   match-clean {k} {p} m x c q n l f =
       which q p (λ b. c q n b f) (λ e. x (match-fault s k p n m (rw e at f))) (λ b. match-inside m q n b l f)
 
-  -- a name that the course does not take has the fault that it gives, and none with a smaller number
+  -- a name that the course does not take has the fault that it gives, and none that comes before it
   declared-least : {p k i n : ℕ} (xs : List Span) → Word s k i (p + 1) → Header s k → Clean s (p + 1) → Declares k i → Lists s Declares p xs
       → Declaring s xs (p + 1) n → (n ≡ 0 → ⊥) → Least s (p + 1) n
   declared-least xs v h c d y (Declaring.fresh a b e) z = absurd (z refl)
-  declared-least {p} xs v h c d y (Declaring.unnamed a) z = two (p + 1) c (Fault.word v h (WordFault.noName d a))
-  declared-least xs v h c d y (Declaring.long a b) z =
-      wrong v h c (WordFault.longName d a b) λ m f. ⊎-elim (λ e. omega arith) (λ e. omega (arith, e .1)) (name-wrong d a f)
+  declared-least {p} xs v h c d y (Declaring.unnamed a) z = two-least s (p + 1) c (Fault.word v h (WordFault.noName d a))
+  declared-least xs v h c d y (Declaring.long a b) z = long-name-least s v h c d a b
   declared-least {p} xs v h c d y (Declaring.again a b e) z =
       let x = y (wordAt s (p + 1)) .0 e in
-      wrong v h c (WordFault.already d (x .word) (x .is) (omega (arith, x .before)) (x .same))
-      λ m f. ⊎-elim (λ e. absurd (omega arith)) (λ e. omega (arith, e .1)) (name-wrong d a f)
+      already-least s v h c d a b (x .word) (x .is) (omega (arith, x .before)) (x .same)
 
   -- an argument likewise
   argument-least : {k i r n : ℕ} (xs : List Span) → Word s k i r → Header s k → Clean s r → IsArgument k i
@@ -134,13 +124,9 @@ module _ (s : Bytes) where
       → SymbolNamed s (suc k) (wordAt s r) ⊎ (SymbolNamed s (suc k) (wordAt s r) → ⊥) → Arguing s xs r n → (n ≡ 0 → ⊥) → Least s r n
   argument-least xs v h c d y g (Arguing.ignored e) z = absurd (z refl)
   argument-least xs v h c d y g (Arguing.variable a b e) z = absurd (z refl)
-  argument-least {r = r} xs v h c d y g (Arguing.unnamed a b) z = two r c (Fault.word v h (WordFault.noArgument d a b))
-  argument-least xs v h c d y g (Arguing.long a b) z =
-      wrong v h c (WordFault.longArgument d a b) λ m f. ⊎-elim (λ e. omega arith) (λ e. omega (arith, e .1)) (argument-wrong d (inr a) f .1)
-  argument-least {r = r} xs v h c d y g (Arguing.unknown a b e) z =
-      let no : VariableNamed s (wordAt s r) → ⊥ = λ (i, q, u, t, w). y e i q u t w in
-      wrong v h c (⊎-elim (λ z. WordFault.symbolArgument d a no z) (λ z. WordFault.undeclaredArgument d a no z) g)
-      λ m f. ⊎-elim (λ e. absurd (omega arith)) (λ e. omega (arith, e .1)) (argument-wrong d (inr a) f .1)
+  argument-least {r = r} xs v h c d y g (Arguing.unnamed a b) z = two-least s r c (Fault.word v h (WordFault.noArgument d a b))
+  argument-least xs v h c d y g (Arguing.long a b) z = long-argument-least s v h c d a b
+  argument-least xs v h c d y g (Arguing.unknown a b e) z = undeclared-argument-least s v h c d a b (λ (i, q, u, t, w). y e i q u t w) g
 
   module _ {p k i : ℕ} {vs ss : List Span} (f : HeaderFacts s p k i vs ss) where
     -- the words of line 0 stand before p
@@ -231,16 +217,16 @@ module _ (s : Bytes) where
 
 module _ (s : Bytes) (bytes : isBytes s ≡ true) where
   pub header-stop-least : (q n : ℕ) → HeaderStop s q n → Least s q n
-  header-stop-least q n (HeaderStop.noVars x e) = rw e (two s 0 (λ r m l. absurd (omega arith)) (first-fault s x))
+  header-stop-least q n (HeaderStop.noVars x e) = rw e (two-least s 0 (λ r m l. absurd (omega arith)) (first-fault s x))
   header-stop-least q n (HeaderStop.noLF k i vs ss c e) =
       let f = header-facts s c in
-      two s q (f .clean) (Fault.missingLF (on s f) (λ j r a b. f .header j r a (omega arith)) e)
+      two-least s q (f .clean) (Fault.missingLF (on s f) (λ j r a b. f .header j r a (omega arith)) e)
   header-stop-least q n (HeaderStop.lastSpace k i vs ss c a e) =
       let f = header-facts s c in
-      two s q (f .clean) (Fault.spaceLast (on s f) (f .header) a e)
+      two-least s q (f .clean) (Fault.spaceLast (on s f) (f .header) a e)
   header-stop-least q n (HeaderStop.twoSpaces p k i vs ss c a b x e) =
       let f = header-facts s c in
-      rw e (two s (p + 1) (gap-clean s f a x) (Fault.spaceTwice p (on s f) (f .header) a b refl))
+      rw e (two-least s (p + 1) (gap-clean s f a x) (Fault.spaceTwice p (on s f) (f .header) a b refl))
   header-stop-least q n (HeaderStop.badVariable p i m vs c a b g e z r) =
       let f = header-facts s c in
       let v = gap-word s f g in
@@ -248,12 +234,10 @@ module _ (s : Bytes) (bytes : isBytes s ≡ true) where
       (rw append-nil at (lists-joined s p vs [] (f .variables) (f .symbols))) (rw e at (declaring v vs)) z)
   header-stop-least q n (HeaderStop.fifthVariable p vs ss c g e) =
       let f = header-facts s c in
-      let x : IsExcess 0 5 = inl (refl, refl) in
-      rw e (wrong s (gap-word s f g) (f .header) (gap-passed s f g) (WordFault.fifthVariable refl refl)
-      λ m w. omega (arith, excess-wrong x w))
+      rw e (excess-least s (gap-word s f g) (f .header) (gap-passed s f g) (inl (refl, refl)))
   header-stop-least q n (HeaderStop.fewWords k i vs ss c a b e) =
       let f = header-facts s c in
-      two s q (f .clean) (Fault.missingWord (on s f) (f .header) (inl e) (inr (a, omega (arith, ap (λ y. y .words) (f .spot)))))
+      two-least s q (f .clean) (Fault.missingWord (on s f) (f .header) (inl e) (inr (a, omega (arith, ap (λ y. y .words) (f .spot)))))
   header-stop-least q n (HeaderStop.badName p k m vs ss c a g e z r) =
       let f = header-facts s c in
       let v = gap-word s f g in
@@ -262,7 +246,7 @@ module _ (s : Bytes) (bytes : isBytes s ≡ true) where
   header-stop-least q n (HeaderStop.badKind p k vs ss c a g e r) =
       let f = header-facts s c in
       let v = gap-word s f g in
-      rw r (two s (p + 1) (gap-passed s f g) (Fault.word v (f .header) (WordFault.noKind a refl (kind-none v e))))
+      rw r (two-least s (p + 1) (gap-passed s f g) (Fault.word v (f .header) (WordFault.noKind a refl (kind-none v e))))
   header-stop-least q n (HeaderStop.badArgument p k i m vs ss c a b d g e z r) =
       let f = header-facts s c in
       let v = gap-word s f g in
@@ -270,17 +254,14 @@ module _ (s : Bytes) (bytes : isBytes s ≡ true) where
       (decided _ _ (symbols-before s f b (wordAt s (p + 1)))) (rw e at (arguing v vs)) z)
   header-stop-least q n (HeaderStop.fifthArgument p k vs ss c a g e) =
       let f = header-facts s c in
-      let x : IsExcess k 7 = inr (a, refl) in
-      rw e (wrong s (gap-word s f g) (f .header) (gap-passed s f g) (WordFault.fifthArgument a refl)
-      λ m w. omega (arith, excess-wrong x w))
+      rw e (excess-least s (gap-word s f g) (f .header) (gap-passed s f g) (inr (a, refl)))
   header-stop-least q n (HeaderStop.badLine p k i vs ss c a b l x y e) =
       let f = header-facts s c in
-      rw e (two s (p + 1) (line-clean s f l b) (line-fault s f l x y))
+      rw e (two-least s (p + 1) (line-clean s f l b) (line-fault s f l x y))
   header-stop-least q n (HeaderStop.seventeenth p i vs ss c a l e r) =
       let f = header-facts s c in
       let v = line-word s f l _ _ e in
-      rw r (wrong s v (line-header s f v λ m. omega (arith, ap length (sym e ∙ m))) (line-clean s f l λ _. a)
-      (WordFault.seventeenth refl refl e) λ m w. omega (arith, first-wrong refl (λ h. absurd (omega arith)) (λ _. e) w))
+      rw r (seventeenth-least s v (line-header s f v λ m. omega (arith, ap length (sym e ∙ m))) (line-clean s f l λ _. a) refl refl e)
 
   pub matched-ready : (e : ℕ) (vs ss : List Span) → Matched s e vs ss → Ready s ss e
   matched-ready e vs ss m =

@@ -1,12 +1,11 @@
 -- What a word of the lines before the pattern, and a token of the pattern, is answered, sentence by sentence, where no fault stands before it: for
 -- readers of `refused`, which says the same by `Fault`. Limits and words are written out, and each case says what `read` hands back, whatever else
 -- the word or token is.
-use mathlib.Core.Path.{_≡_, sym, ap, _∙_}
-use mathlib.Core.Bool.{true, false, false≢true}
+use mathlib.Core.Path.{_≡_}
+use mathlib.Core.Bool.{true, false}
 use mathlib.Core.List.{[], _∷_, _++_}
-use mathlib.Core.Logic.{_⊎_, inl, inr, ⊎-elim}
+use mathlib.Core.Logic.{_⊎_}
 use Prim.Native.Nat.{ℕ, suc, _+_, _≤_, _<_}
-use native.Mathlib.Omega.{arith}
 use lib.ListN.{length}
 use Rattle.form.specs.Text.{Bytes, isBytes, ascii, decimal, space, isLower}
 use Rattle.form.specs.Scan.{at, spacesEnd}
@@ -14,16 +13,20 @@ use Rattle.book.specs.Answers.{numberOf, placeOf}
 use Rattle.book.specs.Books.{reading}
 use Rattle.fault.specs.Places.{On, Ends, spotAt, Word, wordAt, NoMatch, Header, PatternLine, TokenAt, before, nameAt, tokenAt}
 use Rattle.fault.specs.Places.{occurrences, signs, Pattern, Begins}
-use Rattle.fault.specs.Fault.{isNameForm, IsArgument, VariableNamed, SymbolNamed, WordFault, TokenFault, Fault, word, token}
-use Rattle.fault.specs.Fault.{notVars, notSym, seventeenth, noName, longName, already, noKind, noArgument, longArgument}
-use Rattle.fault.specs.Fault.{undeclaredArgument, symbolArgument, fifthVariable, fifthArgument}
-use Rattle.fault.specs.Fault.{spaceFirst, spaceTwice, spaceLast, missingWord, missingSym, missingSpace, missingToken, missingLF, after}
-use Rattle.fault.specs.Fault.{longToken, thirtySecond, seventeenthOpen, undeclaredName, variableName, misplaced}
-use Rattle.least.proofs.Sites.{Clean, least-of, word-fault, fault-number}
-use Rattle.least.proofs.WordFaults.{first-wrong, name-wrong, argument-wrong, excess-wrong}
-use Rattle.least.proofs.PatternSites.{Here, noSpace, noToken, noLF, line-fault, token-fault}
-use Rattle.least.proofs.PatternSites as PatternSites
+use Rattle.fault.specs.Fault.{isNameForm, IsArgument, VariableNamed, SymbolNamed, WordFault, Fault, Least}
+use Rattle.fault.specs.Fault.{notVars, notSym, noName, noKind, noArgument, word}
+use Rattle.fault.specs.Fault.{spaceFirst, spaceTwice, spaceLast, missingWord, missingSym, missingSpace, missingLF, after}
+use Rattle.fault.proofs.Ranks.{fault-listed}
+use Rattle.least.proofs.Sites.{Clean, two-least}
+use Rattle.least.proofs.LeastFaults.{seventeenth-least, long-name-least, already-least, long-argument-least}
+use Rattle.least.proofs.LeastFaults.{undeclared-argument-least, excess-least, missing-token-least, long-token-least}
+use Rattle.least.proofs.LeastFaults.{thirty-second-least, seventeenth-open-least, undeclared-name-least, misplaced-least}
 use Rattle.least.proofs.Refused.{refused}
+
+-- the least fault is what `read` hands back
+answered : (s : Bytes) → isBytes s ≡ true → length s ≤ 4096 → {p n : ℕ} → Least s p n
+    → (numberOf (reading s .answer) ≡ n) × (placeOf (reading s .answer) ≡ p)
+answered s bytes short {p} {n} l = refused s bytes .fault n p (fault-listed (l .fault)) .1 (short, l)
 
 -- word number i, from 0, of line k, from 0, begins at p, none of these lines is `match …`, and no fault stands before p
 module _ (s : Bytes) (bytes : isBytes s ≡ true) (short : length s ≤ 4096) {k i p : ℕ} (w : Word s k i p) (h : Header s k) (clean : Clean s p) where
@@ -31,14 +34,8 @@ module _ (s : Bytes) (bytes : isBytes s ≡ true) (short : length s ≤ 4096) {k
   abbrev pub Answers : ℕ → Type 0
   Answers n = (numberOf (reading s .answer) ≡ n) × (placeOf (reading s .answer) ≡ p)
 
-  -- a fault of the word, and none of its faults has a smaller number
-  answers : (n : ℕ) → n ≤ 6 → WordFault s k i p n → ((m : ℕ) → WordFault s k i p m → n ≤ m) → Answers n
-  answers n few f least =
-      let l = least-of s p n clean (word w h f) (λ m g. least m (word-fault s k p m (ap (λ y. y .line) (w .spot)) h g i w)) in
-      refused s bytes .fault n p (fault-number s p n (word w h f)) few .1 (short, l)
-
   two : WordFault s k i p 2 → Answers 2
-  two f = answers 2 (omega arith) f (λ m g. fault-number s p m (word w h g))
+  two f = answered s bytes short (two-least s p clean (word w h f))
 
   -- "First line: `vars`"; "Then 1 to 16 lines `sym NAME KIND ARGS`. … Last line: `match`": any other word; "for a seventeenth `sym`, that word"
   pub first-words : i ≡ 0
@@ -47,7 +44,7 @@ module _ (s : Bytes) (bytes : isBytes s ≡ true) (short : length s ≤ 4096) {k
   first-words z = (
     λ a b. two (notVars a z b),
     λ a b. two (notSym a z b),
-    λ a b. answers 3 (omega arith) (seventeenth a z b) (λ m g. let (_, e) = first-wrong z (λ y. absurd (omega arith)) (λ _. b) g in omega arith),
+    λ a b. answered s bytes short (seventeenth-least s w h clean a z b),
   )
 
   -- "A name is a to z, then a to z or 0 to 9, 1 to 12 bytes": any other word is 2, "for a name over 12 bytes, that name" is 3; "name already declared" is
@@ -58,9 +55,8 @@ module _ (s : Bytes) (bytes : isBytes s ≡ true) (short : length s ≤ 4096) {k
       → (j l q : ℕ) → Word s j l q → ((j ≡ 0) × (1 ≤ l) × (l ≤ 4)) ⊎ ((1 ≤ j) × (l ≡ 1)) → q < p → wordAt s q ≡ wordAt s p → Answers 4)
   declaring-words d = (
     λ f. two (noName d f),
-    λ f n. answers 3 (omega arith) (longName d f n) (λ m g. ⊎-elim (λ e. omega (arith, e .1)) (λ e. omega (arith, e .1)) (name-wrong d f g)),
-    λ f n j l q u e b x. answers 4 (omega arith) (already d u e b x)
-        (λ m g. ⊎-elim (λ e. omega (arith, e)) (λ e. omega (arith, e .1)) (name-wrong d f g)),
+    λ f n. answered s bytes short (long-name-least s w h clean d f n),
+    λ f n j l q u e b x. answered s bytes short (already-least s w h clean d f n u e b x),
   )
 
   -- "KIND is 1 to 255 without leading zeros"; "A KIND out of range is 2"
@@ -77,48 +73,13 @@ module _ (s : Bytes) (bytes : isBytes s ≡ true) (short : length s ≤ 4096) {k
   argument-words a b c =
       let x : IsArgument k i = (a, b, c) in (
         λ u f. two (noArgument x u f),
-        λ f n. answers 3 (omega arith) (longArgument x f n)
-            (λ m g. ⊎-elim (λ e. omega (arith, e .1)) (λ e. omega (arith, e .1)) (argument-wrong x (inr f) g .1)),
-        λ f n v y. answers 5 (omega arith) (⊎-elim (symbolArgument x f v) (undeclaredArgument x f v) y)
-            (λ m g. ⊎-elim (λ e. omega (arith, e)) (λ e. omega (arith, e .1)) (argument-wrong x (inr f) g .1)),
+        λ f n. answered s bytes short (long-argument-least s w h clean x f n),
+        λ f n v y. answered s bytes short (undeclared-argument-least s w h clean x f n v y),
       )
 
   -- "the first excess word, of any form, carries 3": a fifth variable, a fifth argument, whatever its bytes
   pub excess : ((k ≡ 0) × (i ≡ 5)) ⊎ ((1 ≤ k) × (i ≡ 7)) → Answers 3
-  excess x =
-      answers 3 (omega arith) (⊎-elim (λ e. fifthVariable (e .0) (e .1)) (λ e. fifthArgument (e .0) (e .1)) x)
-      (λ m g. let e = excess-wrong x g in omega arith)
-
--- a token's faults have numbers from 3 on; a name is no parenthesis
-token-number : {s : Bytes} {k p q n : ℕ} → TokenFault s k p q n → 3 ≤ n
-token-number (longToken a b) = omega arith
-token-number (thirtySecond a b) = omega arith
-token-number (seventeenthOpen a b) = omega arith
-token-number (undeclaredName a b c) = omega arith
-token-number (variableName a b c) = omega arith
-token-number (misplaced a b) = omega arith
-
-lower-open : (b : ℕ) → isLower b ≡ true → b ≡ 40 → ⊥
-lower-open b l e = false≢true (sym (ap isLower e) ∙ l)
-
--- a name whose length and number are within their limits has no 3
-name-number : {s : Bytes} {k p q n : ℕ} → isLower (at s q) ≡ true → length (nameAt s q) ≤ 12 → occurrences (before s p q) < 31 → TokenFault s k p q n → 5 ≤ n
-name-number l a b (longToken _ c) = absurd (omega (arith, c))
-name-number l a b (thirtySecond _ c) = absurd (omega (arith, c))
-name-number l a b (seventeenthOpen c _) = absurd (lower-open _ l c)
-name-number l a b (undeclaredName _ _ _) = omega arith
-name-number l a b (variableName _ _ _) = omega arith
-name-number l a b (misplaced _ _) = omega arith
-
--- what is no name and no parenthesis too many is only ever misplaced
-sign-number : {s : Bytes} {k p q n : ℕ} → isLower (at s q) ≡ false
-    → (at s q ≡ 40 → signs 40 (before s p q) < 16 + signs 41 (before s p q)) → TokenFault s k p q n → 6 ≤ n
-sign-number l a (longToken c _) = absurd (false≢true (sym l ∙ c))
-sign-number l a (thirtySecond c _) = absurd (false≢true (sym l ∙ c))
-sign-number l a (seventeenthOpen c d) = absurd (omega (arith, a c, d))
-sign-number l a (undeclaredName c _ _) = absurd (false≢true (sym l ∙ c))
-sign-number l a (variableName c _ _) = absurd (false≢true (sym l ∙ c))
-sign-number l a (misplaced _ _) = omega arith
+  excess x = answered s bytes short (excess-least s w h clean x)
 
 -- a token begins at q on the pattern's line, which is line k with `match` and a space at p, behind a `sym` line, and no fault stands before it
 module _ (s : Bytes) (bytes : isBytes s ≡ true) (short : length s ≤ 4096) {k p q : ℕ} (line : PatternLine s k p) (later : k ≡ 1 → ⊥)
@@ -126,31 +87,25 @@ module _ (s : Bytes) (bytes : isBytes s ≡ true) (short : length s ≤ 4096) {k
   abbrev pub TokenAnswers : ℕ → Type 0
   TokenAnswers n = (numberOf (reading s .answer) ≡ n) × (placeOf (reading s .answer) ≡ q)
 
-  token-answers : (n : ℕ) → n ≤ 6 → TokenFault s k p q n → ((m : ℕ) → TokenFault s k p q m → n ≤ m) → TokenAnswers n
-  token-answers n few f least =
-      let wrong = token line gap t f in
-      let l = least-of s q n clean wrong (λ m g. least m (token-fault s k p line later q m (t .behind) (t .on) (t .present) (t .inLine) g .1)) in
-      refused s bytes .fault n q (fault-number s q n wrong) few .1 (short, l)
-
   -- "for a name over 12 bytes, that name"; "At most 31 symbol occurrences"; "name not declared", "a variable's in the pattern, is 5"
   pub name-tokens : isLower (at s q) ≡ true
       → (12 < length (nameAt s q) → TokenAnswers 3) × (31 ≤ occurrences (before s p q) → TokenAnswers 3)
       × (length (nameAt s q) ≤ 12 → occurrences (before s p q) < 31 → (SymbolNamed s k (nameAt s q) → ⊥)
       → VariableNamed s (nameAt s q) ⊎ (VariableNamed s (nameAt s q) → ⊥) → TokenAnswers 5)
   name-tokens l = (
-    λ a. token-answers 3 (omega arith) (longToken l a) (λ m g. token-number g),
-    λ a. token-answers 3 (omega arith) (thirtySecond l a) (λ m g. token-number g),
-    λ a b c d. token-answers 5 (omega arith) (⊎-elim (variableName l c) (undeclaredName l c) d) (λ m g. name-number l a b g),
+    λ a. answered s bytes short (long-token-least s line later gap clean t l a),
+    λ a. answered s bytes short (thirty-second-least s line later gap clean t l a),
+    λ a b c d. answered s bytes short (undeclared-name-least s line later gap clean t l a b c d),
   )
 
   -- "at most 16 parentheses open together"
   pub open-tokens : at s q ≡ 40 → 16 + signs 41 (before s p q) ≤ signs 40 (before s p q) → TokenAnswers 3
-  open-tokens e a = token-answers 3 (omega arith) (seventeenthOpen e a) (λ m g. token-number g)
+  open-tokens e a = answered s bytes short (seventeenth-open-least s line later gap clean t e a)
 
   -- "pattern out of form": the first token that no pattern has there
   pub other-tokens : isLower (at s q) ≡ false → (at s q ≡ 40 → signs 40 (before s p q) < 16 + signs 41 (before s p q))
       → Begins (before s p q) → (Begins (before s p q ++ (tokenAt s q ∷ [])) → ⊥) → TokenAnswers 6
-  other-tokens l a b c = token-answers 6 (omega arith) (misplaced b c) (λ m g. sign-number l a g)
+  other-tokens l a b c = answered s bytes short (misplaced-least s line later gap clean t l a b c)
 
 -- places of spaces and of what is missing, where no fault stands before them
 module _ (s : Bytes) (bytes : isBytes s ≡ true) (short : length s ≤ 4096) {q : ℕ} (clean : Clean s q) where
@@ -158,7 +113,7 @@ module _ (s : Bytes) (bytes : isBytes s ≡ true) (short : length s ≤ 4096) {q
   PlaceAnswers n = (numberOf (reading s .answer) ≡ n) × (placeOf (reading s .answer) ≡ q)
 
   at-two : Fault s q 2 → PlaceAnswers 2
-  at-two f = refused s bytes .fault 2 q (omega arith) (omega arith) .1 (short, least-of s q 2 clean f (λ m g. fault-number s q m g))
+  at-two f = answered s bytes short (two-least s q clean f)
 
   -- "a space too many is 2 at that space": before a line's first word, behind another space, with no word behind it
   pub spaces : {k : ℕ}
@@ -188,12 +143,4 @@ module _ (s : Bytes) (bytes : isBytes s ≡ true) (short : length s ≤ 4096) {q
   -- "pattern out of form", where the pattern wants a token more: "a missing one is placed at the LF"
   pub missing-token : {k p : ℕ} (l : PatternLine s k p) → (k ≡ 1 → ⊥) → at s (p + 5) ≡ 32 → p + 6 ≤ q → On s k q → at s q ≡ 10 → q < length s
       → Begins (before s p q) → (Pattern (before s p q) → ⊥) → PlaceAnswers 6
-  missing-token {k} {p} l later g behind o e i b n =
-      refused s bytes .fault 6 q (omega arith) (omega arith) .1
-      (short, least-of s q 6 clean (missingToken l g o (inl e) b n) (λ m f. only m (line-fault s k p l later q m (omega arith) o f)))
-    where
-      only : (m : ℕ) → Here s k p l q m → 6 ≤ m
-      only m (noSpace x y) = absurd (omega arith)
-      only m (PatternSites.token t x) = absurd (t .inLine e)
-      only m (noToken x y) = omega arith
-      only m (noLF x) = absurd (omega arith)
+  missing-token l later g behind o e i b n = answered s bytes short (missing-token-least s l later g clean behind o e b n)

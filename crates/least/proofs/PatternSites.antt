@@ -1,5 +1,5 @@
 -- Which faults can stand on the pattern's line, behind its word `match`: a wrong token, and at the line's end a missing token or LF. For
--- PatternFacts and PatternFaults.
+-- LeastFaults, PatternFacts and PatternFaults.
 use mathlib.Core.Path.{_≡_, refl, ap, _∙_}
 use mathlib.Core.Bool.{Bool, true, false, cond}
 use mathlib.Core.Logic.{⊎-elim, dite}

@@ -17,6 +17,7 @@ use Rattle.fault.specs.Fault.{notVars, notSym, seventeenth, noName, longName, a
 use Rattle.fault.specs.Fault.{undeclaredArgument, symbolArgument, fifthVariable, fifthArgument}
 use Rattle.fault.specs.Fault.{spaceFirst, spaceTwice, spaceLast, missingWord, missingSym, missingSpace, missingToken, missingLF, after}
 use Rattle.fault.specs.Fault.{longToken, thirtySecond, seventeenthOpen, undeclaredName, variableName, misplaced}
+use Rattle.fault.proofs.Ranks.{listed-range}
 use Rattle.least.proofs.Sites.{Clean}
 use Rattle.least.proofs.Refused.{refused}
 
@@ -144,7 +145,7 @@ module _ (s : Bytes) (q : ℕ) where
 
   -- what `read` hands back has its reason
   pub reasons : isBytes s ≡ true → (n : ℕ) → 2 ≤ n → n ≤ 6 → numberOf (reading s .answer) ≡ n → placeOf (reading s .answer) ≡ q → Reason n
-  reasons bytes n low high e f = reason (refused s bytes .fault n q low high .0 (e, f) .1 .fault)
+  reasons bytes n low high e f = reason (refused s bytes .fault n q (listed-range n .1 (low, high)) .0 (e, f) .1 .fault)
 
 -- "no fault stands before p", as Judged has it (`Clean`), in these words: no sentence gives a number to a place before it
 pub clean-words : (s : Bytes) (p : ℕ) → ((q n : ℕ) → q < p → Reason s q n → ⊥) → Clean s p

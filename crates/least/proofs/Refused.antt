@@ -2,8 +2,10 @@
 -- the least fault, 7, 8, or 0.
 use mathlib.Core.Path.{_≡_, refl, sym, ap, _∙_}
 use mathlib.Core.Bool.{Bool, true, false, true≢false}
-use mathlib.Core.Logic.{_↔_, _⊎_, inl, inr, ⊎-elim}
+use mathlib.Core.List.{List·Memᴰ}
+use mathlib.Core.Logic.{_↔_, _⊎_, inl, inr, ⊎-elim, dite}
 use Prim.Native.Nat.{ℕ, _+_, _≤_, _<_}
+use native.Mathlib.Decide.{ℕ-discrete}
 use native.Mathlib.Omega.{arith}
 use borrow.Author.Tests.{eqb-true, eqb-false, eq-eqb, ltb-false, ltb-true}
 use lib.Dec.{eqb, ltb}
@@ -22,8 +24,9 @@ use Rattle.parsing.proofs.Outcomes.{Whole, known, patternOf, bindsAll, outcome}
 use Rattle.book.specs.Answers.{numberOf, placeOf}
 use Rattle.book.specs.Books.{reading}
 use Rattle.book.proofs.Bench as Bench
-use Rattle.fault.specs.Fault.{Fault, Least, NoFault}
+use Rattle.fault.specs.Fault.{Fault, faultNumbers, faultRank, Least, NoFault}
 use Rattle.fault.specs.Rules.{AdmitsEmpty, LeavesUnbound, Rules}
+use Rattle.fault.proofs.Ranks.{listed-range, not-listed, same-rank}
 use Rattle.least.proofs.HeaderPrefix.{Ready}
 use Rattle.least.proofs.HeaderCourse.{lines-stop, lines-matched}
 use Rattle.least.proofs.HeaderFaults.{header-stop-least, matched-ready}
@@ -51,7 +54,7 @@ module _ (s : Bytes) (bytes : isBytes s ≡ true) where
 
   -- the number and the place of a refusal before the words are judged: the least fault
   abbrev Judged : (number place : ℕ) → Type 0
-  Judged n p = 2 ≤ n → n ≤ 6 → Least s p n
+  Judged n p = List·Memᴰ n faultNumbers → Least s p n
 
   abbrev JudgedOutcome : Outcome → Type 0
   JudgedOutcome o = Judged (o .number) (o .place)
@@ -63,7 +66,7 @@ module _ (s : Bytes) (bytes : isBytes s ≡ true) where
   -- a step with a fault that is the least
   step-judged : (m : Parsed) → ((m .step .fault ≡ 0 → ⊥) → Least s (m .step .place) (m .step .fault)) → JudgedPattern m
   step-judged m f =
-      either JudgedOutcome (eqb (m .step .fault) 0) (λ _ h. absurd (omega arith)) (λ e _ _. f (eqb-false _ _ e))
+      either JudgedOutcome (eqb (m .step .fault) 0) (λ _ h. absurd (not-listed refl h)) (λ e _. f (eqb-false _ _ e))
 
   pattern-least : length s ≤ textLimit → linesOf s .step .fault ≡ 0 → at s behind ≡ space → (patternOf s .step .fault ≡ 0 → ⊥)
       → Least s (patternOf s .step .place) (patternOf s .step .fault)
@@ -79,10 +82,10 @@ module _ (s : Bytes) (bytes : isBytes s ≡ true) where
       let a = patternOf s in
       either JudgedPattern (eqb (at s behind) space)
       (λ g. either JudgedPattern (eqb (a .step .fault) 0)
-      (λ _. either JudgedPattern (nullable (a .tree)) (λ _ _ h. absurd (omega arith))
-      λ _. either JudgedPattern (bindsAll s) (λ _. step-judged a (pattern-least short l (eqb-true _ _ g))) λ _ _ h. absurd (omega arith))
+      (λ _. either JudgedPattern (nullable (a .tree)) (λ _ h. absurd (not-listed refl h))
+      λ _. either JudgedPattern (bindsAll s) (λ _. step-judged a (pattern-least short l (eqb-true _ _ g))) λ _ h. absurd (not-listed refl h))
       λ _. step-judged a (pattern-least short l (eqb-true _ _ g)))
-      λ g _ _. space-least s bytes _ behind (ready l) (eqb-false _ _ g)
+      λ g _. space-least s bytes _ behind (ready l) (eqb-false _ _ g)
 
   judged : length s ≤ textLimit → JudgedOutcome (readingOf s)
   unfolding readingOf
@@ -90,17 +93,17 @@ module _ (s : Bytes) (bytes : isBytes s ≡ true) where
       let l = linesOf s in
       either JudgedOutcome (ltb textLimit (length s)) (λ e. absurd (omega (arith, ltb-true textLimit (length s) e)))
       λ _. either JudgedOutcome (eqb (l .step .fault) 0) (λ f. match-judged short (eqb-true _ _ f))
-      λ f _ _. header-stop-least s bytes _ _ (lines-stop s bytes (eqb-false _ _ f))
+      λ f _. header-stop-least s bytes _ _ (lines-stop s bytes (eqb-false _ _ f))
 
   -- two least faults are one
   same-least : (p n q m : ℕ) → Least s p n → Least s q m → (n ≡ m) × (p ≡ q)
   same-least p n q m a b = by (a .least q m (b .fault)) (b .least p n (a .fault))
     where
-      by : (p < q) ⊎ ((p ≡ q) × (n ≤ m)) → (q < p) ⊎ ((q ≡ p) × (m ≤ n)) → (n ≡ m) × (p ≡ q)
+      by : (p < q) ⊎ ((p ≡ q) × (faultRank n ≤ faultRank m)) → (q < p) ⊎ ((q ≡ p) × (faultRank m ≤ faultRank n)) → (n ≡ m) × (p ≡ q)
       by (inl x) (inl y) = absurd (omega arith)
       by (inl x) (inr y) = absurd (omega (arith, y .0))
       by (inr x) (inl y) = absurd (omega (arith, x .0))
-      by (inr x) (inr y) = (omega (arith, x .1, y .1), x .0)
+      by (inr x) (inr y) = (same-rank (a .fault) (b .fault) (omega (arith, x .1, y .1)), x .0)
 
   abbrev number : ℕ
   number = readingOf s .number
@@ -120,25 +123,35 @@ module _ (s : Bytes) (bytes : isBytes s ≡ true) where
   none-of : (number ≡ 0) ⊎ (7 ≤ number) → NoFault s
   none-of h = whole-none (known s .whole h)
 
-  -- a text with a fault that is not too long: the number is one of 2 to 6
-  fault-range : (q m : ℕ) → length s ≤ textLimit → Fault s q m → (2 ≤ number) × (number ≤ 6)
-  fault-range q m short f = by (ltb number 2) (ltb 6 number) refl refl
-    where
-      by : (a b : Bool) → ltb number 2 ≡ a → ltb 6 number ≡ b → (2 ≤ number) × (number ≤ 6)
-      by false false e g = (ltb-false number 2 e, ltb-false 6 number g)
-      by a true e g = absurd (none-of (inr (ltb-true 6 number g)) q m f)
-      by true false e g = absurd (low (eqb number 0) refl)
-        where
-          low : (c : Bool) → eqb number 0 ≡ c → ⊥
-          low true i = none-of (inl (eqb-true number 0 i)) q m f
-          low false i =
-              let one : number ≡ 1 = omega (arith, ltb-true number 2 e, eqb-false number 0 i) in
-              omega (arith, Accepted.too-long s .0 one)
+  -- the number is a fault's, or 0, 1, 7 or 8
+  abbrev Numbered : Type 0
+  Numbered = List·Memᴰ number faultNumbers ⊎ ((number ≡ 0) ⊎ ((number ≡ 1) ⊎ ((number ≡ 7) ⊎ (number ≡ 8))))
 
-  fault-rule : (m q : ℕ) → 2 ≤ m → m ≤ 6 → ((number ≡ m) × (place ≡ q)) ↔ ((length s ≤ textLimit) × Least s q m)
-  fault-rule m q low high = (
-    λ (e, f). let short = short-of (λ o. omega arith) in (short, rw (e, f) at (judged short (omega arith) (omega arith))),
-    λ (short, l). let (a, b) = fault-range q m short (l .fault) in same-least place number q m (judged short a b) l,
+  which-number : Numbered
+  which-number =
+      let most = Accepted.number-range s in
+      dite (ℕ-discrete number 0) (λ e. inr (inl e)) λ a. dite (ℕ-discrete number 1) (λ e. inr (inr (inl e)))
+      λ b. dite (ℕ-discrete number 7) (λ e. inr (inr (inr (inl e)))) λ c. dite (ℕ-discrete number 8) (λ e. inr (inr (inr (inr e))))
+      λ d. inl (listed-range number .1 (omega arith, omega arith))
+
+  not-one : length s ≤ textLimit → number ≡ 1 → ⊥
+  not-one short e = omega (arith, Accepted.too-long s .0 e)
+
+  -- a text with a fault that is not too long: the number is a fault's
+  number-listed : (q m : ℕ) → length s ≤ textLimit → Fault s q m → List·Memᴰ number faultNumbers
+  number-listed q m short f = by which-number
+    where
+      by : Numbered → List·Memᴰ number faultNumbers
+      by (inl a) = a
+      by (inr (inl e)) = absurd (none-of (inl e) q m f)
+      by (inr (inr (inl e))) = absurd (not-one short e)
+      by (inr (inr (inr (inl e)))) = absurd (none-of (inr (omega arith)) q m f)
+      by (inr (inr (inr (inr e)))) = absurd (none-of (inr (omega arith)) q m f)
+
+  fault-rule : (m q : ℕ) → List·Memᴰ m faultNumbers → ((number ≡ m) × (place ≡ q)) ↔ ((length s ≤ textLimit) × Least s q m)
+  fault-rule m q a = (
+    λ (e, f). let short = short-of (λ o. not-listed refl (rw (sym e ∙ o) at a)) in (short, rw (e, f) at (judged short (rw e a))),
+    λ (short, l). same-least place number q m (judged short (number-listed q m short (l .fault))) l,
   )
 
   -- 7 and 8: the words of the one pattern that the text writes
@@ -157,25 +170,14 @@ module _ (s : Bytes) (bytes : isBytes s ≡ true) where
 
   -- no number else is left
   zero-of : length s ≤ textLimit → NoFault s → (AdmitsEmpty s → ⊥) → (LeavesUnbound s → ⊥) → number ≡ 0
-  zero-of short none empty unbound = by (ltb number 2) (ltb 6 number) refl refl
+  zero-of short none empty unbound = by which-number
     where
-      by : (a b : Bool) → ltb number 2 ≡ a → ltb 6 number ≡ b → number ≡ 0
-      by true b e g = low (eqb number 0) refl
-        where
-          low : (c : Bool) → eqb number 0 ≡ c → number ≡ 0
-          low true i = eqb-true number 0 i
-          low false i =
-              let one : number ≡ 1 = omega (arith, ltb-true number 2 e, eqb-false number 0 i) in
-              absurd (omega (arith, Accepted.too-long s .0 one))
-      by false false e g = absurd (none place number (judged short (ltb-false number 2 e) (ltb-false 6 number g) .fault))
-      by false true e g = high (eqb number 7) refl
-        where
-          high : (c : Bool) → eqb number 7 ≡ c → number ≡ 0
-          high true i = absurd (empty (Accepted.seven s .0 (eqb-true number 7 i)))
-          high false i =
-              let eight : number ≡ 8 = omega (arith, ltb-true 6 number g, eqb-false number 7 i, Accepted.number-range s) in
-              let (d, r, f, n, u) = Accepted.eight s .0 eight in
-              absurd (unbound (d, r, f, u))
+      by : Numbered → number ≡ 0
+      by (inl a) = absurd (none place number (judged short a .fault))
+      by (inr (inl e)) = e
+      by (inr (inr (inl e))) = absurd (not-one short e)
+      by (inr (inr (inr (inl e)))) = absurd (empty (Accepted.seven s .0 e))
+      by (inr (inr (inr (inr e)))) = let (d, r, f, n, u) = Accepted.eight s .0 e in absurd (unbound (d, r, f, u))
 
   none-rule : ((number ≡ 0) × (place ≡ 0)) ↔ ((length s ≤ textLimit) × NoFault s × (AdmitsEmpty s → ⊥) × (LeavesUnbound s → ⊥))
   none-rule = (

@@ -31,6 +31,7 @@ use Rattle.book.proofs.Bench.{answer-number, answer-place}
 use Rattle.fault.specs.Fault.{isNameForm, Fault}
 use Rattle.fault.specs.Places.{PatternLine, occurrences}
 use Rattle.fault.specs.Places as Places
+use Rattle.fault.proofs.Ranks.{listed-range}
 use Rattle.least.proofs.HeaderCourse.{lines-matched}
 use Rattle.least.proofs.HeaderFaults.{matched-ready}
 use Rattle.least.proofs.Sites.{Clean}
@@ -60,7 +61,7 @@ right-lines d z bytes stops named apart few some most lined low high =
     let e = header-read s d h in
     let r = matched-ready s bytes _ _ _ (lines-matched s bytes (ap (λ l. l .step .fault) e)) in
     let p = placeOf (reading s .answer) in
-    let f = refused s bytes .fault (numberOf (reading s .answer)) p low high .0 (refl, refl) .1 .fault in
+    let f = refused s bytes .fault (numberOf (reading s .answer)) p (listed-range _ .1 (low, high)) .0 (refl, refl) .1 .fault in
     let here : linesOf s .step .place ≡ length (header d) + 5 = ap (λ l. l .step .place) e in
     by s p (r .clean) f here (ltb p (length (header d) + 5)) refl
   where

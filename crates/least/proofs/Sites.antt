@@ -12,10 +12,7 @@ use Rattle.form.specs.Text.{Bytes, space, lf, matchWord}
 use Rattle.form.specs.Scan.{at, isWordByte, wordEnd, spacesEnd}
 use Rattle.parsing.proofs.TokenScan.{inside-of}
 use Rattle.fault.specs.Places.{On, Ends, spotAt, Word, wordAt, Header, PatternLine}
-use Rattle.fault.specs.Fault.{WordFault, TokenFault, WordsMissing, Fault, Least}
-use Rattle.fault.specs.Fault.{notVars, notSym, seventeenth, noName, longName, already, noKind, noArgument, longArgument}
-use Rattle.fault.specs.Fault.{undeclaredArgument, symbolArgument, fifthVariable, fifthArgument}
-use Rattle.fault.specs.Fault.{longToken, thirtySecond, seventeenthOpen, undeclaredName, variableName, misplaced}
+use Rattle.fault.specs.Fault.{WordFault, WordsMissing, Fault, faultRank, Least}
 use Rattle.fault.specs.Fault.{spaceFirst, spaceTwice, spaceLast, word, missingWord, missingSym, missingSpace, token, missingToken}
 use Rattle.fault.specs.Fault.{missingLF, after}
 use Rattle.least.proofs.Spots.{spot-step, word-end, word-spot, word-same}
@@ -23,30 +20,6 @@ use Rattle.least.proofs.Spots.{spot-step, word-end, word-spot, word-sam
 -- no fault stands before p
 abbrev pub Clean : Bytes → ℕ → Type 0
 Clean s p = (q n : ℕ) → q < p → Fault s q n → ⊥
-
--- no number is below 2
-word-number : {s : Bytes} {k i p n : ℕ} → WordFault s k i p n → 2 ≤ n
-word-number (notVars _ _ _) = omega arith
-word-number (notSym _ _ _) = omega arith
-word-number (seventeenth _ _ _) = omega arith
-word-number (noName _ _) = omega arith
-word-number (longName _ _ _) = omega arith
-word-number (already _ _ _ _ _) = omega arith
-word-number (noKind _ _ _) = omega arith
-word-number (noArgument _ _ _) = omega arith
-word-number (longArgument _ _ _) = omega arith
-word-number (undeclaredArgument _ _ _ _) = omega arith
-word-number (symbolArgument _ _ _ _) = omega arith
-word-number (fifthVariable _ _) = omega arith
-word-number (fifthArgument _ _) = omega arith
-
-token-number : {s : Bytes} {k p q n : ℕ} → TokenFault s k p q n → 2 ≤ n
-token-number (longToken _ _) = omega arith
-token-number (thirtySecond _ _) = omega arith
-token-number (seventeenthOpen _ _) = omega arith
-token-number (undeclaredName _ _ _) = omega arith
-token-number (variableName _ _ _) = omega arith
-token-number (misplaced _ _) = omega arith
 
 -- a byte of a word is no space and ends no line
 no-space : (b : ℕ) → isWordByte b ≡ true → b ≡ space → ⊥
@@ -78,24 +51,15 @@ module _ (s : Bytes) where
   behind-lf : (p : ℕ) → at s p ≡ lf → spotAt s (p + 1) .line ≡ suc (spotAt s p .line)
   behind-lf p e = rw (spot-step s p (lf-inside p e), e)
 
-  pub least-of : (p n : ℕ) → Clean s p → Fault s p n → ((m : ℕ) → Fault s p m → n ≤ m) → Least s p n
+  pub least-of : (p n : ℕ) → Clean s p → Fault s p n → ((m : ℕ) → Fault s p m → faultRank n ≤ faultRank m) → Least s p n
   least-of p n c f l = record {
     fault = f;
     least = λ q m g. dite (decLt p q) inl λ a. dite (ℕ-discrete p q) (λ e. inr (e, l m (rw e g))) λ b. absurd (c q m (omega arith) g);
   }
 
-  pub fault-number : (q n : ℕ) → Fault s q n → 2 ≤ n
-  fault-number q n (spaceFirst _ _ _ _) = omega arith
-  fault-number q n (spaceTwice _ _ _ _ _ _) = omega arith
-  fault-number q n (spaceLast _ _ _ _) = omega arith
-  fault-number q n (word _ _ f) = word-number f
-  fault-number q n (missingWord _ _ _ _) = omega arith
-  fault-number q n (missingSym _ _) = omega arith
-  fault-number q n (missingSpace _ _ _) = omega arith
-  fault-number q n (token _ _ _ f) = token-number f
-  fault-number q n (missingToken _ _ _ _ _ _) = omega arith
-  fault-number q n (missingLF _ _ _) = omega arith
-  fault-number q n (after _ _ _ _ _ _) = omega arith
+  -- no number comes before 2
+  pub two-least : (p : ℕ) → Clean s p → Fault s p 2 → Least s p 2
+  two-least p c f = least-of p 2 c f λ m g. omega arith
 
   -- the word `match` has five bytes
   pub match-end : {k i p : ℕ} → Word s k i p → wordAt s p ≡ matchWord → wordEnd s p ≡ p + 5

@@ -1,5 +1,5 @@
 -- What may be wrong with a word, by what the word is for: the first of a line, a name that is declared, a kind, an argument, one too many.
--- For HeaderFacts (nothing is wrong with a word that the course passes) and HeaderFaults (no smaller number than the course's).
+-- For HeaderFacts (nothing is wrong with a word that the course passes) and LeastFaults (which number comes first).
 use mathlib.Core.Path.{_≡_, refl, sym, _∙_}
 use mathlib.Core.Bool.{true, false≢true}
 use mathlib.Core.Logic.{_⊎_, inl, inr}

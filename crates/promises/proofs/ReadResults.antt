@@ -2,10 +2,9 @@
 -- nothing else does.
 use mathlib.Core.Path.{_≡_, refl, sym, ap, _∙_}
 use mathlib.Core.Bool.{true}
-use mathlib.Core.List.{List, [], _∷_, map}
+use mathlib.Core.List.{List, [], _∷_, List·Memᴰ, map}
 use mathlib.Core.Logic.{inl, inr}
 use Prim.Native.Nat.{ℕ, _≤_, _<_}
-use native.Mathlib.Omega.{arith}
 use borrow.Author.Tests.{eqb-true, eqb-false, ltb-true, ltb-false}
 use lib.Dec.{eqb, ltb}
 use lib.ListN.{length, length-map}
@@ -23,7 +22,9 @@ use Rattle.book.specs.declared.ReadingAnswer.the-variants.{Undeclared, BadPatte
 use Rattle.book.specs.Answers.{numberOf, placeOf, answerOf}
 use Rattle.book.specs.Books.{bookFor, reading, namePlace, nameBytes}
 use Rattle.book.proofs.Bench as Bench
+use Rattle.fault.specs.Fault.{faultNumbers}
 use Rattle.fault.specs.Rules.{Rules}
+use Rattle.fault.proofs.Ranks.{is-listed}
 use Rattle.least.proofs.Refused.{refused}
 use Rattle.promises.proofs.Whether.{whether}
 use Rattle.promises.specs.ReadResults.{ReadingTold, InForm, lineHeld, bookDeclared, ReadGives, PlaceGives, NameGives}
@@ -88,15 +89,19 @@ module _ (s : Bytes) where
         let (_, x, y) = Bench.refusal-book s n in (Bench.empty-book s n, x, y);
   }
 
+  -- number and place of the least fault are one
+  fault-one : (p n q m : ℕ) → Rules s p n → Rules s q m → List·Memᴰ m faultNumbers → (n ≡ m) × (p ≡ q)
+  fault-one p n q m f g a = f .fault m q a .1 (g .fault m q a .0 (refl, refl))
+
   -- number and place of the least fault, or of what comes after all faults, are one
   ruled-one : (p n : ℕ) → Rules s p n → (a : ReadingAnswer) → Rules s (placeOf a) (numberOf a) → (n ≡ numberOf a) × (p ≡ placeOf a)
   ruled-one p n f Accepted g = f .none .1 (g .none .0 (refl, refl))
   ruled-one p n f TooLong g = f .long .1 (g .long .0 (refl, refl))
-  ruled-one p n f (BadLine k) g = f .fault 2 k (omega arith) (omega arith) .1 (g .fault 2 k (omega arith) (omega arith) .0 (refl, refl))
-  ruled-one p n f (AboveLimit k) g = f .fault 3 k (omega arith) (omega arith) .1 (g .fault 3 k (omega arith) (omega arith) .0 (refl, refl))
-  ruled-one p n f (Redeclared k) g = f .fault 4 k (omega arith) (omega arith) .1 (g .fault 4 k (omega arith) (omega arith) .0 (refl, refl))
-  ruled-one p n f (Undeclared k) g = f .fault 5 k (omega arith) (omega arith) .1 (g .fault 5 k (omega arith) (omega arith) .0 (refl, refl))
-  ruled-one p n f (BadPattern k) g = f .fault 6 k (omega arith) (omega arith) .1 (g .fault 6 k (omega arith) (omega arith) .0 (refl, refl))
+  ruled-one p n f (BadLine k) g = fault-one p n k 2 f g (is-listed refl)
+  ruled-one p n f (AboveLimit k) g = fault-one p n k 3 f g (is-listed refl)
+  ruled-one p n f (Redeclared k) g = fault-one p n k 4 f g (is-listed refl)
+  ruled-one p n f (Undeclared k) g = fault-one p n k 5 f g (is-listed refl)
+  ruled-one p n f (BadPattern k) g = fault-one p n k 6 f g (is-listed refl)
   ruled-one p n f (EmptyWord k) g =
       let (short, none, (d, r, x, e)) = g .seven .0 refl in
       let m = f .seven .1 (short, none, (d, r, x, e)) in (m, f .first d r x (inl m) ∙ sym (g .first d r x (inl refl)))
