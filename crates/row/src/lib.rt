@@ -8,6 +8,15 @@ ghost use Rattle.row.specs.RowBytes.{rowBytes};
 // "Row, 24 bytes, no header"
 pub const ROW: usize = 24;
 
+// What a row says: the event number, the variable count, bytes 5 and 6, which are zero today, and a value for each variable.
+pub struct RowFields {
+    pub number: u32,
+    pub variables: usize,
+    pub fifth: u8,
+    pub sixth: u8,
+    pub values: Valuation,
+}
+
 // One row: the event number, the variable count, three zeros and four values, little-endian.
 pub fn row_bytes(number: u32, variables: usize, x: Valuation) -> [u8; ROW]
     requires { ⌜ variables ≤ variableLimit ⌝ }

@@ -4,13 +4,13 @@ use Prim.Native.Nat.{_%_}
 use native.Mathlib.Omega.{arith}
 use borrow.Author.Needs.{needs}
 use lib.ListN.{length}
-use Rattle.row.specs.RowBytes.{wordBytes, rowBytes}
+use Rattle.row.specs.RowBytes.{wordBytes, bytesOf, rowBytes}
 use Rattle.row.proofs.RowBytes.{four-words}
 use Rattle.row.proofs.row_bytes.Statement.{statement}
 use Rattle.row.proofs.row_bytes.Tie as tie
 
 returns : tie.Need-returns
-unfolding rowBytes wordBytes
+unfolding rowBytes bytesOf wordBytes
 returns c =
     let l : length (c .args .t3) ≡ 4 = search needs in
     let small : c .args .variables % 256 ≡ c .args .variables = omega arith in
