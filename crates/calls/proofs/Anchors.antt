@@ -27,7 +27,7 @@ use Rattle.book.specs.Books.{reading, readingFor, bookFor, viewBook}
 use Rattle.state.specs.declared.State.{State}
 use Rattle.state.specs.States.{stateOf, heldFirst, viewState}
 use Rattle.tally.specs.Tallies.{capped, tallied}
-use Rattle.row.specs.RowBytes.{wordBytes, rowBytes}
+use Rattle.row.specs.RowBytes.{wordBytes, bytesOf, rowBytes}
 use Rattle.sound.specs.Soundness.{symbolCounts, bookCounts, bookSound, slotCounts, stateCounts, stateSound}
 use Rattle.calls.specs.Calls.{freshState, rowsBy, stateBy, leavesFreeBy, roomBy, unsound, outOfForm, tooMany, noRoom, noSpace}
 use Rattle.calls.specs.Calls.{answerTo, taken, bufferAfter}
@@ -73,7 +73,7 @@ unfolding bit join meet single pad matches constraintOf soundBook soundSymbol co
     linesOf itemOf nameAtom closed alternationFrom patternFrom lastLine matchFrom readingOf symbolOf tableOf viewSymbol wordAt argumentsIn isRecord
     eventIn viewSlot slotOf viewDisjunct disjunctOf readingFor bookFor viewBook stateOf heldFirst viewState symbolCounts bookCounts bookSound
     slotCounts stateCounts stateSound freshState rowsBy stateBy leavesFreeBy roomBy unsound outOfForm tooMany noRoom noSpace answerTo taken make
-    text bufferAfter rowBytes wordBytes splice front tallied capped
+    text bufferAfter rowBytes bytesOf wordBytes splice front tallied capped
 anchored = refl
 
 -- A pool that is full: 128 disjuncts held of `vars d`, `sym a 1 d`, `match a a`. An event of another kind breaks no room rule and is accepted.
@@ -98,7 +98,7 @@ unfolding bit join meet single pad matches constraintOf soundBook soundSymbol co
     linesOf itemOf nameAtom closed alternationFrom patternFrom lastLine matchFrom readingOf symbolOf tableOf viewSymbol wordAt argumentsIn isRecord
     eventIn viewSlot slotOf viewDisjunct disjunctOf readingFor bookFor viewBook stateOf heldFirst viewState symbolCounts bookCounts bookSound
     slotCounts stateCounts stateSound freshState rowsBy stateBy leavesFreeBy roomBy unsound outOfForm tooMany noRoom noSpace answerTo taken make
-    bufferAfter rowBytes wordBytes splice front tallied capped
+    bufferAfter rowBytes bytesOf wordBytes splice front tallied capped
 room-first = (refl, refl, refl)
 
 -- "bytes 4 to 23" of the row that begins at 0, and of the one at 30

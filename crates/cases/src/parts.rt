@@ -4,6 +4,7 @@ use crate::score::Score;
 use demand::Constraint;
 use demand::Demand;
 use disjunct::Disjunct;
+use row::RowFields;
 ghost use Prim.Native.Nat.{_<_};
 ghost use Rattle.demand.specs.Constraints.{Ready};
 
@@ -133,17 +134,24 @@ fn with_bytes(s: Score, got: &[u8], want: &[u8]) -> Score {
     t
 }
 
-// One row from place 3 on: event number 5, two variables; the bytes before and after stay 9.
+// One row from place 3 on: event number 5, two variables, 4 and 1 in bytes 5 and 6; the bytes before and after stay 9.
 fn written(s: Score) -> Score {
     let mut words = [0u32; ROWS_WORDS];
     let n = rows::insert_row(&mut words, 0, [1, 7, 0, 0]);
     let t = s.with(n == 1);
     let mut buffer = [9u8; BYTES];
-    writer::write_rows(&mut buffer, 3, &words, 1, 5, 2);
+    let shared = RowFields {
+        number: 5,
+        variables: 2,
+        fifth: 4,
+        sixth: 1,
+        values: [0; 4],
+    };
+    writer::write_rows(&mut buffer, 3, &words, 1, shared);
     with_bytes(
         t,
         &buffer,
-        b"\t\t\t\x05\x00\x00\x00\x02\x00\x00\x00\x01\x00\x00\x00\x07\x00\x00\x00\x00\x00\x00\x00\x00\x00\x00\x00\t\t\t\t\t\t\t\t\t\t\t\t\t",
+        b"\t\t\t\x05\x00\x00\x00\x02\x04\x01\x00\x01\x00\x00\x00\x07\x00\x00\x00\x00\x00\x00\x00\x00\x00\x00\x00\t\t\t\t\t\t\t\t\t\t\t\t\t",
     )
 }
 

@@ -27,7 +27,7 @@ use Rattle.record.specs.Records.{eventIn}
 use Rattle.book.specs.Books.{reading}
 use Rattle.calls.specs.Runs.{Call, Made, allBytes, runOf, acceptedIn, recordsOf, traceOf, Partners, InOrder, Alike, Crossed}
 use Rattle.demands.proofs.Listed.{listed}
-use Rattle.demands.proofs.Tails.{tail, buffer-tail}
+use Rattle.demands.proofs.Tails.{tail, plain-tail}
 
 -- the events of records, and of partners
 event-at : (t : List Bytes) (i : ℕ) → getD (map eventIn t) i noEvent ≡ eventIn (getD t i [])
@@ -81,9 +81,9 @@ partners-alike text d r f xs ys bx by p o i a c ha hc =
       counts = left .counted ∙ ap length same ∙ sym (right .counted);
       bytes = λ j h.
           rw (left .written, right .written)
-          (buffer-tail _ _ _ (listed-width tm ok (left .meant)) _ _ (omega (arith, left .fitting)) j (rw (left .counted) at h)
-          ∙ ap (λ l. tail (tm .variables) (getD l j [])) same
-          ∙ sym (buffer-tail _ _ _ (listed-width tm ok (right .meant)) _ _ (omega (arith, right .fitting)) j (rw (left .counted, same) at h)));
+          (plain-tail _ _ _ (listed-width tm ok (left .meant)) _ _ (omega (arith, left .fitting)) j (rw (left .counted) at h)
+          ∙ ap (λ l. tail (tm .variables) 0 0 (getD l j [])) same
+          ∙ sym (plain-tail _ _ _ (listed-width tm ok (right .meant)) _ _ (omega (arith, right .fitting)) j (rw (left .counted, same) at h)));
     }
 
 -- all partners: the two runs may refuse different calls, and lend other buffers, places and tallies

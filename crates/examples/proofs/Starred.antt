@@ -29,7 +29,7 @@ use Rattle.book.specs.Answers.{answerOf}
 use Rattle.book.specs.Books.{reading, readingFor, bookFor, emptyBook, viewBook}
 use Rattle.state.specs.States.{stateOf, heldFirst, viewState}
 use Rattle.sound.specs.Soundness.{symbolCounts, bookCounts, bookSound, slotCounts, stateCounts, stateSound}
-use Rattle.row.specs.RowBytes.{wordBytes, rowBytes}
+use Rattle.row.specs.RowBytes.{wordBytes, bytesOf, rowBytes}
 use Rattle.calls.specs.Calls.{freshState, rowsBy, stateBy, leavesFreeBy, roomBy, unsound, outOfForm, tooMany, noRoom, noSpace, answerTo, taken, bufferAfter}
 use Rattle.tally.specs.Tallies.{capped, tallied}
 use Rattle.calls.specs.Answers.{numberOf}
@@ -46,7 +46,7 @@ unfolding bit join meet single front splice pad matches constraintOf soundBook s
     newHeld setRoom room rows leavesFree soundPiece soundHeld soundState spacesEnd wordEnd nameEnd nextWord nameFault kindOf wantWord kindFrom
     symbolFrom linesOf itemOf nameAtom closed alternationFrom patternFrom lastLine matchFrom readingOf symbolOf tableOf viewSymbol wordAt argumentsIn
     isRecord eventIn viewSlot slotOf viewDisjunct disjunctOf answerOf readingFor bookFor emptyBook viewBook stateOf heldFirst viewState symbolCounts
-    bookCounts bookSound slotCounts stateCounts stateSound wordBytes rowBytes freshState rowsBy stateBy leavesFreeBy roomBy unsound outOfForm tooMany
+    bookCounts bookSound slotCounts stateCounts stateSound wordBytes rowBytes bytesOf freshState rowsBy stateBy leavesFreeBy roomBy unsound outOfForm tooMany
     noRoom noSpace answerTo taken bufferAfter make capped tallied table
 computed = refl
 

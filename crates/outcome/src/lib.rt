@@ -2,6 +2,7 @@
 use book::Book;
 use calls::EventAnswer;
 use calls::Taken;
+use row::RowFields;
 use rows::Words;
 use state::State;
 use tally::Tally;
@@ -77,7 +78,15 @@ pub fn settled(
         (now (rows .entry))) ⌝ }
 {
     if fits(rows.len(), place, n) {
-        writer::write_rows(rows, place, words, n, next.number, book.variables);
+        // Bytes 5 and 6 are zero in the rows of one book alone, and each row has values of its own.
+        let shared = RowFields {
+            number: next.number,
+            variables: book.variables,
+            fifth: 0,
+            sixth: 0,
+            values: [0; 4],
+        };
+        writer::write_rows(rows, place, words, n, shared);
         return accepted(n, book, next, tally);
     }
     refused(EventAnswer::NoSpace, book, state, tally)

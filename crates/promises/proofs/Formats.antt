@@ -17,7 +17,7 @@ use Rattle.meaning.specs.Events.{Valuation}
 use Rattle.form.specs.Text.{Bytes}
 use Rattle.record.specs.Records.{wordAt, argumentsIn, isRecord, eventIn}
 use Rattle.record.proofs.Records.{record-form, form-record}
-use Rattle.row.specs.RowBytes.{wordBytes, rowBytes}
+use Rattle.row.specs.RowBytes.{wordBytes, bytesOf, rowBytes}
 use Rattle.row.proofs.RowBytes.{gather-length, row-length}
 use Rattle.promises.proofs.Whether.{whether}
 use Rattle.promises.specs.Formats.{wordFrom, InRecord, eventOfBytes, WordAt, RowAt, RowsIn}
@@ -81,7 +81,7 @@ abbrev rowOf : (n v : ℕ) → Valuation → List ℕ
 rowOf n v σ = wordThen n (v ∷ 0 ∷ 0 ∷ 0 ∷ wordThen (getD σ 0 0) (wordThen (getD σ 1 0) (wordThen (getD σ 2 0) (wordThen (getD σ 3 0) []))))
 
 row-listed : (n v : ℕ) (σ : Valuation) → length σ ≤ 4 → rowBytes n v σ ≡ rowOf n v σ
-unfolding rowBytes wordBytes pad
+unfolding rowBytes bytesOf wordBytes pad
 row-listed n v [] h = refl
 row-listed n v (a ∷ []) h = refl
 row-listed n v (a ∷ b ∷ []) h = refl

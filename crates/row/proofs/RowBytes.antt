@@ -1,22 +1,19 @@
--- The bytes of rows: 24 to each, the same for a valuation and for the four words that hold it, and one after the other. For the
--- functions of this crate and for the event call.
+-- The bytes of rows, whatever their fields: 24 to each, the same for a valuation and for the four words that hold it, and one after the
+-- other. For the functions of this crate and for the event call.
 use mathlib.Core.Path.{_≡_, refl, sym, ap, _∙_}
-use mathlib.Core.Bool.{true}
 use mathlib.Core.List.{List, [], _∷_, _++_, append-assoc, append-nil, List·Memᴰ, List·Memᴰ·head, List·Memᴰ·tail}
 use Prim.Native.Nat.{ℕ, _+_, _*_, _≤_, _<_}
 use native.Mathlib.Numerals.{add-one}
 use native.Mathlib.Omega.{arith}
-use borrow.Author.Tests.{leb-true}
-use lib.Dec.{leb}
 use lib.ListN.{length, take, getD, length-append}
 use lib.Seq.{take-suc}
-use Rattle.laws.specs.Lists.{all, gather}
+use Rattle.laws.specs.Lists.{gather}
 use Rattle.laws.specs.Parts.{pad}
-use Rattle.laws.proofs.Lists.{all-at}
 use Rattle.laws.proofs.Parts.{pad-length, pad-full}
 use Rattle.laws.proofs.Arrays.{by-index}
 use Rattle.meaning.specs.Events.{Valuation}
-use Rattle.row.specs.RowBytes.{wordBytes, rowBytes}
+use Rattle.row.specs.RowBytes.{wordBytes, bytesOf, withValues, plainRow, rowBytes}
+use Rattle.row.specs.declared.RowFields.{RowFields}
 
 -- lists of n elements each, one after the other
 pub gather-length : {A B : Type 0} (g : A → List B) (n : ℕ) (l : List A) → ((x : A) → List·Memᴰ x l → length (g x) ≡ n) → length (gather g l) ≡ length l * n
@@ -39,23 +36,24 @@ pub word-length : (x : ℕ) → length (wordBytes x) ≡ 4
 unfolding wordBytes
 word-length x = refl
 
+pub bytes-length : (r : RowFields) → length (r .values) ≤ 4 → length (bytesOf r) ≡ 24
+unfolding bytesOf
+bytes-length r h =
+    simp length-append
+    (omega (arith, word-length (r .number), gather-length wordBytes 4 (pad 4 0 (r .values)) (λ x m. word-length x), pad-length 4 0 (r .values) h))
+
+pub bytes-wide : (r : RowFields) → length (r .values) ≤ 4 → bytesOf (withValues r (pad 4 0 (r .values))) ≡ bytesOf r
+unfolding bytesOf
+bytes-wide r h = rw (pad-full 4 0 (pad 4 0 (r .values)) (omega (arith, pad-length 4 0 (r .values) h)))
+
+-- the same of a row of one book alone
 pub row-length : (number variables : ℕ) (σ : Valuation) → length σ ≤ 4 → length (rowBytes number variables σ) ≡ 24
 unfolding rowBytes
-row-length number variables σ h =
-    simp length-append (omega (arith, word-length number, gather-length wordBytes 4 (pad 4 0 σ) (λ x m. word-length x), pad-length 4 0 σ h))
+row-length number variables σ = bytes-length (plainRow number variables σ)
 
 pub row-wide : (number variables : ℕ) (σ : Valuation) → length σ ≤ 4 → rowBytes number variables (pad 4 0 σ) ≡ rowBytes number variables σ
 unfolding rowBytes
-row-wide number variables σ h = rw (pad-full 4 0 (pad 4 0 σ) (omega (arith, pad-length 4 0 σ h)))
-
-pub rows-length : (number variables : ℕ) (l : List Valuation) → all (λ σ. leb (length σ) 4) l ≡ true
-    → length (gather (rowBytes number variables) l) ≡ 24 * length l
-rows-length number variables l h =
-    omega (
-      arith,
-      gather-length (rowBytes number variables) 24 l
-          (λ σ m. row-length number variables σ (leb-true (length σ) 4 (all-at (λ σ. leb (length σ) 4) h m))),
-    )
+row-wide number variables σ = bytes-wide (plainRow number variables σ)
 
 -- the values of a row of four words, written out
 pub four-words : (x : Valuation) → length x ≡ 4 → pad 4 0 x ≡ getD x 0 0 ∷ getD x 1 0 ∷ getD x 2 0 ∷ getD x 3 0 ∷ []

@@ -5,7 +5,7 @@ use mathlib.Core.List.{List, [], _∷_, _++_}
 use Prim.Native.Nat.{ℕ, _/_, _%_}
 use lib.ListN.{replicate}
 use Rattle.laws.specs.Parts.{pad}
-use Rattle.row.specs.RowBytes.{wordBytes, rowBytes}
+use Rattle.row.specs.RowBytes.{wordBytes, bytesOf, rowBytes}
 
 pub row-words : (n v a b c d : ℕ)
     → let word : ℕ → List ℕ = λ x. x % 256 ∷ x / 256 % 256 ∷ x / 65536 % 256 ∷ x / 16777216 % 256 ∷ [] in
@@ -15,5 +15,5 @@ pub row-words : (n v a b c d : ℕ)
     × (rowBytes n v (a ∷ b ∷ []) ≡ head ++ (word a ++ (word b ++ replicate 8 0)))
     × (rowBytes n v (a ∷ b ∷ c ∷ []) ≡ head ++ (word a ++ (word b ++ (word c ++ replicate 4 0))))
     × (rowBytes n v (a ∷ b ∷ c ∷ d ∷ []) ≡ head ++ (word a ++ (word b ++ (word c ++ word d))))
-unfolding rowBytes wordBytes pad
+unfolding rowBytes bytesOf wordBytes pad
 row-words n v a b c d = (refl, refl, refl, refl, refl)

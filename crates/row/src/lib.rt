@@ -3,16 +3,27 @@ use rows::Valuation;
 ghost use mathlib.Core.Path.{_≡_};
 ghost use Prim.Native.Nat.{_≤_};
 ghost use Rattle.meaning.specs.Limits.{variableLimit};
-ghost use Rattle.row.specs.RowBytes.{rowBytes};
+ghost use Rattle.row.specs.RowBytes.{bytesOf};
 
 // "Row, 24 bytes, no header"
 pub const ROW: usize = 24;
 
-// One row: the event number, the variable count, three zeros and four values, little-endian.
-pub fn row_bytes(number: u32, variables: usize, x: Valuation) -> [u8; ROW]
-    requires { ⌜ variables ≤ variableLimit ⌝ }
-    ensures { λ r. ⌜ r ≡ rowBytes number variables x ⌝ }
+// What a row says: the event number, the variable count, bytes 5 and 6, which are zero today, and a value for each variable.
+pub struct RowFields {
+    pub number: u32,
+    pub variables: usize,
+    pub fifth: u8,
+    pub sixth: u8,
+    pub values: Valuation,
+}
+
+// One row: the event number, the variable count, bytes 5 and 6, a zero and four values, little-endian.
+pub fn row_bytes(r: RowFields) -> [u8; ROW]
+    requires { ⌜ r .variables ≤ variableLimit ⌝ }
+    ensures { λ row. ⌜ row ≡ bytesOf r ⌝ }
 {
+    let number = r.number;
+    let x = r.values;
     let a = x[0];
     let b = x[1];
     let c = x[2];
@@ -22,9 +33,9 @@ pub fn row_bytes(number: u32, variables: usize, x: Valuation) -> [u8; ROW]
         (number / 256 % 256) as u8,
         (number / 65536 % 256) as u8,
         (number / 16777216 % 256) as u8,
-        (variables % 256) as u8,
-        0,
-        0,
+        (r.variables % 256) as u8,
+        r.fifth,
+        r.sixth,
         0,
         (a % 256) as u8,
         (a / 256 % 256) as u8,

@@ -1,5 +1,6 @@
 // The bytes of rows, written into the lent buffer from a given place on. For the event call.
 pub use row::ROW;
+use row::RowFields;
 use rows::Words;
 ghost use mathlib.Core.Path.{_≡_};
 ghost use Prim.Native.Nat.{_+_, _*_, _≤_};
@@ -9,7 +10,7 @@ ghost use Rattle.laws.specs.Parts.{front, splice};
 ghost use Rattle.meaning.specs.Limits.{variableLimit};
 ghost use Rattle.bounded.specs.Bounded.{rowLimit};
 ghost use Rattle.rows.specs.Valuations.{valuationsIn};
-ghost use Rattle.row.specs.RowBytes.{rowSize, rowBytes};
+ghost use Rattle.row.specs.RowBytes.{rowSize, bytesOf, withValues};
 
 // One row over the beginning of a part.
 fn put_row(out: &mut [u8], row: [u8; ROW])
@@ -23,15 +24,17 @@ fn put_row(out: &mut [u8], row: [u8; ROW])
     }
 }
 
-// The first n rows over the beginning of a part.
-fn put_rows(out: &mut [u8], words: &Words, n: usize, number: u32, variables: usize)
-    requires { ⌜ (variables ≤ variableLimit) × (n ≤ rowLimit) × (rowSize * n ≤ length (now out)) ⌝ }
-    ensures { λ _. ⌜ now (out .exit) ≡ front (gather (rowBytes number variables) (take n (valuationsIn (now (words .entry))))) (now (out .entry)) ⌝ }
+// The first n rows over the beginning of a part. They share all fields but the values.
+fn put_rows(out: &mut [u8], words: &Words, n: usize, shared: RowFields)
+    requires { ⌜ (shared .variables ≤ variableLimit) × (n ≤ rowLimit) × (rowSize * n ≤ length (now out)) ⌝ }
+    ensures { λ _. ⌜ now (out .exit) ≡ front (gather (λ σ. bytesOf (withValues shared σ)) (take n (valuationsIn (now (words .entry))))) (now (out .entry)) ⌝ }
 {
     let mut i: usize = 0;
     while i < n {
         let x = rows::get(words, i);
-        let row = row::row_bytes(number, variables, x);
+        let mut r = shared;
+        r.values = x;
+        let row = row::row_bytes(r);
         let at = ROW * i;
         put_row(&mut out[at..], row);
         i += 1;
@@ -39,16 +42,9 @@ fn put_rows(out: &mut [u8], words: &Words, n: usize, number: u32, variables: usi
 }
 
 // The first n rows from the place on; the bytes before it and after the last row stay.
-pub fn write_rows(
-    out: &mut [u8],
-    place: usize,
-    words: &Words,
-    n: usize,
-    number: u32,
-    variables: usize,
-)
-    requires { ⌜ (variables ≤ variableLimit) × (n ≤ rowLimit) × (place + rowSize * n ≤ length (now out)) ⌝ }
-    ensures { λ _. ⌜ now (out .exit) ≡ splice place (gather (rowBytes number variables) (take n (valuationsIn (now (words .entry))))) (now (out .entry)) ⌝ }
+pub fn write_rows(out: &mut [u8], place: usize, words: &Words, n: usize, shared: RowFields)
+    requires { ⌜ (shared .variables ≤ variableLimit) × (n ≤ rowLimit) × (place + rowSize * n ≤ length (now out)) ⌝ }
+    ensures { λ _. ⌜ now (out .exit) ≡ splice place (gather (λ σ. bytesOf (withValues shared σ)) (take n (valuationsIn (now (words .entry))))) (now (out .entry)) ⌝ }
 {
-    put_rows(&mut out[place..], words, n, number, variables);
+    put_rows(&mut out[place..], words, n, shared);
 }

@@ -1,7 +1,8 @@
--- `outcome::settled` meets its contract: by the test for space.
+-- `outcome::settled` meets its contract: by the test for space; the fields that it hands to the writer are those of a row of one book alone.
 use mathlib.Core.Path.{sym, _∙_}
 use borrow.Author.Needs.{needs}
 use borrow.Author.Tests.{leb-true}
+use Rattle.row.specs.RowBytes.{rowBytes}
 use Rattle.outcome.proofs.settled.Statement.{statement}
 use Rattle.outcome.proofs.settled.Tie as tie
 
@@ -20,6 +21,7 @@ same-length : tie.Need-same-length
 same-length c = search needs
 
 returns : tie.Need-returns
+unfolding rowBytes
 returns c =
     let written = c .before .before .before in
     let e = sym (written .before .before .before .fits2 .ensures) ∙ written .before .before .if1 .taken in

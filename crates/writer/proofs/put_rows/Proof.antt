@@ -7,18 +7,18 @@ use lib.ListN.{length, take}
 use Rattle.laws.specs.Lists.{gather}
 use Rattle.laws.specs.Parts.{front}
 use Rattle.rows.specs.Valuations.{valuationsIn}
-use Rattle.row.specs.RowBytes.{rowBytes}
+use Rattle.row.specs.RowBytes.{bytesOf, withValues}
 use Rattle.writer.proofs.Fronts.{front-nothing, lent-front}
 use Rattle.writer.proofs.Turns.{rows-next}
 use Rattle.writer.proofs.put_rows.Statement.{statement}
 use Rattle.writer.proofs.put_rows.Tie as tie
 
 abbrev Inv-loop : tie.InvT-loop
-Inv-loop out₀ words n number variables i₀ out i =
-    (i ≤ n) × (length out ≡ length out₀) × (out ≡ front (gather (rowBytes number variables) (take i (valuationsIn words))) out₀)
+Inv-loop out₀ words n shared i₀ out i =
+    (i ≤ n) × (length out ≡ length out₀) × (out ≡ front (gather (λ σ. bytesOf (withValues shared σ)) (take i (valuationsIn words))) out₀)
 
 abbrev μ-loop : tie.MeasureT-loop
-μ-loop out₀ words n number variables i₀ out i = n - i
+μ-loop out₀ words n shared i₀ out i = n - i
 
 loop-holds : tie.Need-loop-holds Inv-loop μ-loop
 loop-holds c = (search needs, search needs, sym (front-nothing (c .before .args .out .now)))
@@ -60,7 +60,7 @@ loop-again c =
       search needs,
       search needs,
       lent-front (24 * i) (made .row-bytes .result) out (omega arith) (c .before .before .put-row .ensures)
-          ∙ rows-next (start .number) (start .variables) (start .words .now) i (start .out .now) (omega arith) (omega arith) (made .before .get .ensures)
+          ∙ rows-next (start .shared) (start .words .now) i (start .out .now) (omega arith) (omega arith) (made .before .get .ensures)
           (made .row-bytes .ensures) (turn .loop .inv .2),
     )
 
@@ -72,7 +72,7 @@ returns c =
     let start = c .before .before .before .args in
     let e : c .before .loop .i ≡ start .n = omega arith in
     c .before .loop .inv .2
-    ∙ ap (λ k. front (gather (rowBytes (start .number) (start .variables)) (take k (valuationsIn (start .words .now)))) (start .out .now)) e
+    ∙ ap (λ k. front (gather (λ σ. bytesOf (withValues (start .shared) σ)) (take k (valuationsIn (start .words .now)))) (start .out .now)) e
 
 pub put-rows-spec : {M : Type 1} → statement M
 put-rows-spec =

@@ -4,7 +4,7 @@ use borrow.Author.Needs.{needs}
 use lib.ListN.{take}
 use Rattle.laws.specs.Lists.{gather}
 use Rattle.rows.specs.Valuations.{valuationsIn}
-use Rattle.row.specs.RowBytes.{rowBytes}
+use Rattle.row.specs.RowBytes.{bytesOf, withValues}
 use Rattle.writer.proofs.Fronts.{lent-front}
 use Rattle.writer.proofs.write_rows.Statement.{statement}
 use Rattle.writer.proofs.write_rows.Tie as tie
@@ -27,7 +27,7 @@ same-length c = search needs
 returns : tie.Need-returns
 returns c =
     let start = c .before .before .before .before .before .args in
-    let rows = gather (rowBytes (start .number) (start .variables)) (take (start .n) (valuationsIn (start .words .now))) in
+    let rows = gather (λ σ. bytesOf (withValues (start .shared) σ)) (take (start .n) (valuationsIn (start .words .now))) in
     lent-front (start .place) rows (start .out .now) (omega arith) (c .before .before .put-rows .ensures)
 
 pub write-rows-spec : {M : Type 1} → statement M
