@@ -20,7 +20,7 @@ use Rattle.pattern.specs.Positions.{size, symbols, beginning, ending, following
 use Rattle.pattern.proofs.Masks.{Among, beginning-among, ending-among, following-among, symbolAt-list, symbols-length}
 use Rattle.pattern.proofs.Spell.{positions-left}
 use Rattle.meaning.specs.Events.{Parameter, ignored, names, Symbol, Event, Valuation}
-use Rattle.meaning.specs.Events.{word32, wellFormed, isValuation, matches, equalAll, holds, concerns}
+use Rattle.meaning.specs.Events.{word32, wellFormed, isValuation, equalAll, holds, concerns}
 use Rattle.meaning.specs.Meaning.{Tracematch, noSymbol, noEvent, concerning, stretch, Reading, nothing, next, Match}
 use Rattle.meaning.specs.Labels as Labels
 use Rattle.meaning.specs.Labels.{State}

@@ -7,14 +7,14 @@ use mathlib.Core.Logic.{_↔_, Iff·trans}
 use Prim.Native.Nat.{ℕ, suc, _+_, _-_, _<_}
 use native.Mathlib.Omega.{arith}
 use lib.Dec.{eqb}
-use lib.ListN.{length, getD, take, length-reverse, length-append, length-map}
+use lib.ListN.{length, getD, take, length-reverse, length-map}
 use lib.Seq.{getD-append-seam, getD-take}
 use borrow.Author.Tests.{eqb-true}
-use Rattle.laws.specs.Lists.{all, keep}
-use Rattle.laws.proofs.Lists.{all-append, all-take, and-true-split}
+use Rattle.laws.specs.Lists.{all}
+use Rattle.laws.proofs.Lists.{all-take, and-true-split}
 use Rattle.runs.proofs.Accepted.{as-many}
 use Rattle.meaning.specs.Events.{Event, Valuation, wellFormed, isValuation, concerns}
-use Rattle.meaning.specs.Meaning.{Tracematch, noEvent, Match, Row}
+use Rattle.meaning.specs.Meaning.{Tracematch, noEvent, Row}
 use Rattle.meaning.specs.Book.{Book, bookOf, Proper}
 use Rattle.meaning.specs.Labels.{Held, newHeld, fresh, freshAt}
 use Rattle.meaning.specs.Rows.{rows}
@@ -24,7 +24,7 @@ use Rattle.automaton.proofs.Plain.{run-held, AtEvent, at-event}
 use Rattle.automaton.proofs.Automaton.{limited, nextBy, MatchFrom, completed-match, match-valuation, match-prefix}
 use Rattle.automaton.proofs.Reduced.{reduced-match}
 use Rattle.automaton.proofs.Bound.{none-left-free-by}
-use Rattle.automaton.proofs.Tracks.{mayBegin, tracked, row-width, row-completes, completes-row}
+use Rattle.automaton.proofs.Tracks.{tracked, row-width, row-completes, completes-row}
 
 -- a row list for each accepted event
 pub rowLists-length : (tm : Tracematch) (cs : List Call) → length (rowLists tm cs) ≡ length (traceOf cs)

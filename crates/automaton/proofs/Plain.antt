@@ -1,6 +1,6 @@
 -- Plain runs, by the laws of runs of any machine: what they reach depends on their trace alone, two of them stay alike event by event, and each
 -- accepted event met the state behind the calls before it.
-use mathlib.Core.Path.{_≡_, refl, sym, ap, _∙_}
+use mathlib.Core.Path.{_≡_, refl, ap, _∙_}
 use mathlib.Core.Bool.{Bool, true, false, cond}
 use mathlib.Core.List.{List, [], _∷_, _++_, map, map-append}
 use Prim.Native.Nat.{ℕ, suc, _+_, _<_}
@@ -9,13 +9,13 @@ use lib.ListN.{length, getD, take, length-map}
 use Rattle.laws.specs.Lists.{keep}
 use Rattle.laws.proofs.Lists.{either}
 use Rattle.laws.proofs.Maps.{take-map}
-use Rattle.runs.specs.Runs.{resultsFrom, stateFrom, behindTrace, Within}
+use Rattle.runs.specs.Runs.{resultsFrom, behindTrace, Within}
 use Rattle.runs.proofs.Runs.{within-at, within-map, results-take, result-there, along-each, kept-along, followed}
 use Rattle.runs.proofs.Accepted.{passed-at, passed-there, as-many}
 use Rattle.meaning.specs.Events.{Event}
 use Rattle.meaning.specs.Meaning.{noEvent}
 use Rattle.meaning.specs.Book.{Book}
-use Rattle.meaning.specs.Labels.{Held, State, next, newHeld}
+use Rattle.meaning.specs.Labels.{State, next, newHeld}
 use Rattle.meaning.specs.Runs.{Call, sentEvent, wasTaken, traceOf, PlainResult, plainMachine, run, given}
 
 -- what a run reaches depends on its trace alone

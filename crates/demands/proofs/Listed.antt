@@ -1,6 +1,6 @@
 -- Demand 2 for whole runs of event calls over a read text: after each accepted event the bytes in its buffer are the rows of the
 -- declarative meaning. For the buyer; the definitions are those that the contract of `event` cites.
-use mathlib.Core.Path.{_≡_, sym, ap, subst, _∙_}
+use mathlib.Core.Path.{_≡_, ap, subst, _∙_}
 use mathlib.Core.Bool.{true}
 use mathlib.Core.List.{List, [], _∷_, _++_}
 use Prim.Native.Nat.{ℕ, suc, _+_}

@@ -2,7 +2,7 @@
 -- two numbers. For readers of the definitions, and so that a change of one is refused here, before `refused` (crate least) is proved again.
 -- The pattern's line stands directly behind line 0 in most of the texts: that no other stands before it is then plain.
 use mathlib.Core.Path.{_≡_, refl, sym, ap}
-use mathlib.Core.Bool.{true, false, true≢false}
+use mathlib.Core.Bool.{true≢false}
 use mathlib.Core.List.{_++_}
 use mathlib.Core.Logic.{inl, inr, ⊎-elim}
 use Prim.Native.Nat.{ℕ, zero, suc, _+_, _≤_, _<_}

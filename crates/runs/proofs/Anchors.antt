@@ -1,8 +1,8 @@
 -- What the definitions of runs and paired traces compute or shut out, from these alone: a wrong one is refused here first, because a fact is false.
 use mathlib.Core.Path.{_≡_, refl}
 use mathlib.Core.Bool.{Bool, true, false, not}
-use mathlib.Core.List.{List, [], _∷_}
-use Prim.Native.Nat.{ℕ, _+_, _<_}
+use mathlib.Core.List.{[], _∷_}
+use Prim.Native.Nat.{ℕ, _+_}
 use native.Mathlib.Omega.{arith}
 use lib.Dec.{eqb}
 use Rattle.runs.specs.Runs.{Machine, resultsFrom, stateFrom, traceBy, behindTrace}
