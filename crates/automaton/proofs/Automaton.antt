@@ -64,11 +64,11 @@ module _ (tm : Tracematch) where
       let n = symbols-length (tm .pattern) in
       (λ h. omega (arith, m .0 h), λ a. m .1 (omega arith))
 
-  symbolOf-at : {p : ℕ} → Among (tm .pattern) 1 p → symbolOf (bookOf tm) p ≡ getD (tm .symbols) (symbolAt (tm .pattern) 1 p) noSymbol
+  pub symbolOf-at : {p : ℕ} → Among (tm .pattern) 1 p → symbolOf (bookOf tm) p ≡ getD (tm .symbols) (symbolAt (tm .pattern) 1 p) noSymbol
   unfolding bookOf
   symbolOf-at {p} a = rw (symbolAt-list (tm .pattern) 1 p a)
 
-  followsAt-bit : {p : ℕ} → Among (tm .pattern) 1 p → (q : ℕ) → followsAt (bookOf tm) p q ≡ bit q (following (tm .pattern) 1 p)
+  pub followsAt-bit : {p : ℕ} → Among (tm .pattern) 1 p → (q : ℕ) → followsAt (bookOf tm) p q ≡ bit q (following (tm .pattern) 1 p)
   unfolding bookOf
   followsAt-bit {p} a q =
       let place : 1 + (p - 1) ≡ p = omega arith in
@@ -300,15 +300,15 @@ reverse-take k l =
     ap (λ r. drop (length l - k) (reverse r)) (sym (take-append-drop k l)) ∙ ap (drop (length l - k)) (reverse-append (take k l) (drop k l))
     ∙ drop-at (reverse (drop k l)) (reverse (take k l)) (length l - k) (length-reverse (drop k l) ∙ length-drop k l)
 
-module _ (tm : Tracematch) (ok : Proper tm) (σ : Valuation) where
-  -- a word of the pattern is spelled up to a position that ends one
-  spelled : {w : List ℕ} {p : ℕ} → Reach (tm .pattern) w p → Has p (ending (tm .pattern) 1) → In (tm .pattern) (reverse w)
-  spelled (start {p = p} h) g = positions-left (tm .pattern) _ [] .1 (p, start h, g)
-  spelled (onto {w = w} {q = q} r h) g = positions-left (tm .pattern) _ w .1 (q, onto r h, g)
+-- a word of the pattern is spelled up to a position that ends one
+pub spelled : (tm : Tracematch) {w : List ℕ} {p : ℕ} → Reach (tm .pattern) w p → Has p (ending (tm .pattern) 1) → In (tm .pattern) (reverse w)
+spelled tm (start {p = p} h) g = positions-left (tm .pattern) _ [] .1 (p, start h, g)
+spelled tm (onto {w = w} {q = q} r h) g = positions-left (tm .pattern) _ w .1 (q, onto r h, g)
 
-  spelling : (w : List ℕ) → In (tm .pattern) (reverse w) → (p : ℕ) × Reach (tm .pattern) w p × Has p (ending (tm .pattern) 1)
-  spelling [] h = absurd (ok .nonempty h)
-  spelling (a ∷ w) h = positions-left (tm .pattern) a w .0 h
+spelling : (tm : Tracematch) → Proper tm → (w : List ℕ) → In (tm .pattern) (reverse w)
+    → (p : ℕ) × Reach (tm .pattern) w p × Has p (ending (tm .pattern) 1)
+spelling tm ok [] h = absurd (ok .nonempty h)
+spelling tm ok (a ∷ w) h = positions-left (tm .pattern) a w .0 h
 
 -- a match of events number first to last whose first event itself concerns σ and may begin one
 pub record MatchFrom (may : ℕ → Bool) (tm : Tracematch) (t : List Event) (first last : ℕ) (σ : Valuation) : Type 0 where
@@ -340,7 +340,7 @@ module _ (tm : Tracematch) (ok : Proper tm) (σ : Valuation) (may : ℕ → Bool
             inside = omega (arith, length-reverse l);
             word = reverse w;
             reading = rw (turned k first (omega arith)) (reading-turned (c .reading) nothing);
-            spoken = spelled tm ok σ (c .path) ends;
+            spoken = spelled tm (c .path) ends;
           };
           concerned = rw (oldest k first (b .some) (b .inside) refl) (b .concerned);
           allowed = b .allowed;
@@ -354,7 +354,7 @@ module _ (tm : Tracematch) (ok : Proper tm) (σ : Valuation) (may : ℕ → Bool
       let k = length l - (first - 1) in
       let some : 1 ≤ k = omega (arith, m .from, m .upto) in
       let d = rw (turned k first (omega (arith, m .from, m .upto))) at (reading-turned (m .reading) nothing) in
-      let (q, path, ends) = spelling tm ok σ (reverse (m .word)) (rw (reverse-reverse (m .word)) (m .spoken)) in
+      let (q, path, ends) = spelling tm ok (reverse (m .word)) (rw (reverse-reverse (m .word)) (m .spoken)) in
       let same : first ≡ suc (length l - k) = omega (arith, m .from, m .upto) in (
         q,
         ends,

@@ -3,7 +3,7 @@ use mathlib.Core.Path.{_≡_, refl, sym, ap, subst₂, _∙_}
 use mathlib.Core.Bool.{Bool, true, false, cond, _&&_, _||_, false≢true, or-comm, or-false}
 use mathlib.Core.List.{List, [], _∷_, map, reverse, reverse-cons, List·Memᴰ, List·Memᴰ·not-nil}
 use mathlib.Core.Logic.{⊎-elim, dite}
-use Prim.Native.Nat.{ℕ, suc, _+_, _-_, _<_}
+use Prim.Native.Nat.{ℕ, suc, _-_, _<_}
 use native.Mathlib.Decide.{ℕ-discrete}
 use native.Mathlib.Omega.{arith}
 use lib.Dec.{eqb}
@@ -12,12 +12,10 @@ use lib.Seq.{getD-set-same, getD-set-other, map-set-same}
 use borrow.Author.Tests.{eqb-true}
 use Rattle.laws.specs.Bits.{bit}
 use Rattle.laws.specs.Lists.{any}
-use Rattle.laws.proofs.Lists.{and-true-split, or-true-split, any-append, any-agree, any-false, any-none, mem-keep, mem-index, getD-numbers}
-use Rattle.pattern.specs.Regex.{In}
+use Rattle.laws.proofs.Lists.{and-true-split, or-true-split, any-append, any-agree, any-false, any-none, mem-keep, mem-index}
 use Rattle.pattern.specs.Positions as Positions
 use Rattle.pattern.specs.Positions.{Has, Reach, start, next}
-use Rattle.pattern.proofs.Masks.{Among, beginning-among, following-among, symbolAt-list}
-use Rattle.pattern.proofs.Spell.{positions-left}
+use Rattle.pattern.proofs.Masks.{Among, beginning-among, following-among}
 use Rattle.meaning.specs.Events.{Parameter, ignored, names, Symbol, Event, Demand, Constraint, never, demands}
 use Rattle.meaning.specs.Events.{matches, demandsOf, consistent, constraintOf}
 use Rattle.meaning.specs.Meaning.{Tracematch, noSymbol}
@@ -30,7 +28,7 @@ use Rattle.automaton.proofs.Fits.{met-length}
 use Rattle.automaton.proofs.Members.{stepSet-member}
 use Rattle.automaton.proofs.Stems.{skip-cases, label-held, skip-kept, source-cases, new-cases}
 use Rattle.automaton.proofs.Plain.{kept-run}
-use Rattle.automaton.proofs.Automaton.{limited, limited-begins, nextBy}
+use Rattle.automaton.proofs.Automaton.{limited, limited-begins, nextBy, symbolOf-at, followsAt-bit, spelled}
 
 none-pass : {A : Type 0} (f : A → Bool) (l : List A) → ((x : A) → List·Memᴰ x l → f x ≡ false) → any f l ≡ false
 none-pass f l h = any-agree f (λ x. false) l h ∙ any-false l
@@ -115,16 +113,12 @@ module _ (tm : Tracematch) where
     pub path : Reach (tm .pattern) word p
     pub binding : (v : ℕ) → v < tm .variables → bindsIn v word ≡ true → hasValue D v
 
-  spoken : {w : List ℕ} {p : ℕ} → Reach (tm .pattern) w p → Has p (Positions.ending (tm .pattern) 1) → In (tm .pattern) (reverse w)
-  spoken (start h) k = positions-left (tm .pattern) _ [] .1 (_, start h, k)
-  spoken (next r h) k = positions-left (tm .pattern) _ _ .1 (_, next r h, k)
-
   -- at the end of a path every variable has a value, since the word that the path spells binds it
   backed-closed : {p : ℕ} {D : Disjunct} → Proper tm → Has p (Positions.ending (tm .pattern) 1) → Backed p D → any isFree D ≡ false
   backed-closed {D = D} ok ends o = none-pass isFree D λ x m.
       let i = mem-index (free []) m in
       let h : i .0 < tm .variables = rw (o .wide) at (i .1) in
-      sym (ap isFree (i .2)) ∙ o .binding (i .0) h (sym (any-reverse _ (o .word)) ∙ ok .binding (i .0) h _ (spoken (o .path) ends))
+      sym (ap isFree (i .2)) ∙ o .binding (i .0) h (sym (any-reverse _ (o .word)) ∙ ok .binding (i .0) h _ (spelled tm (o .path) ends))
 
   -- every held disjunct has one
   abbrev pub AllBacked : List Held → Type 0
@@ -136,15 +130,10 @@ module _ (tm : Tracematch) where
 
   -- the book's followers and symbols are the pattern's
   follows-has : {w : List ℕ} {p : ℕ} (q : ℕ) → Reach (tm .pattern) w p → followsAt (bookOf tm) p q ≡ true → Has q (Positions.following (tm .pattern) 1 p)
-  unfolding bookOf
-  follows-has {p = p} q r h =
-      let a = reach-among r in
-      let place : 1 + (p - 1) ≡ p = omega arith in
-      rw (getD-numbers (Positions.following (tm .pattern) 1) 1 (Positions.size (tm .pattern)) (p - 1) 0 (omega arith), place) at h
+  follows-has q r h = rw (followsAt-bit tm (reach-among r) q) at h
 
   symbol-at : {w : List ℕ} {q : ℕ} → Reach (tm .pattern) w q → symbolOf (bookOf tm) q ≡ getD (tm .symbols) (Positions.symbolAt (tm .pattern) 1 q) noSymbol
-  unfolding bookOf
-  symbol-at {q = q} r = ap (λ a. getD (tm .symbols) a noSymbol) (sym (symbolAt-list (tm .pattern) 1 q (reach-among r)))
+  symbol-at r = symbolOf-at tm (reach-among r)
 
   -- the book, or the same with fewer beginning positions
   module _ (m : ℕ) (fewer : (q : ℕ) → bit q m ≡ true → Has q (Positions.beginning (tm .pattern) 1)) (held : List Held) (backed : AllBacked held) (e : Event) where
