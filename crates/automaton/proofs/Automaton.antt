@@ -102,17 +102,17 @@ limited-begins false m q h = absurd (true≢false (sym h ∙ bit-zero q))
 module _ (tm : Tracematch) (ok : Proper tm) (σ : Valuation) (may : ℕ → Bool) where
   -- a path that stands at position q after a trace, whose newest event comes first: it was begun by the oldest of the newest k events, and the word
   -- that they are read as is w, its newest symbol first
-  data Path : (t : List Event) (k : ℕ) (w : List ℕ) (q : ℕ) → Type 0 where
+  data Trail : (t : List Event) (k : ℕ) (w : List ℕ) (q : ℕ) → Type 0 where
     begun : {e : Event} {t : List Event} {q : ℕ} → may (suc (length t)) ≡ true → Has q (beginning (tm .pattern) 1)
-        → holds (symbolOf (bookOf tm) q) e σ ≡ true → Path (e ∷ t) 1 (symbolAt (tm .pattern) 1 q ∷ []) q
-    taken : {e : Event} {t : List Event} {k : ℕ} {w : List ℕ} {p q : ℕ} → Path t k w p → Has q (following (tm .pattern) 1 p)
-        → holds (symbolOf (bookOf tm) q) e σ ≡ true → Path (e ∷ t) (suc k) (symbolAt (tm .pattern) 1 q ∷ w) q
-    passedOver : {e : Event} {t : List Event} {k : ℕ} {w : List ℕ} {p : ℕ} → Path t k w p → concerns (tm .symbols) e σ ≡ false
-        → Path (e ∷ t) (suc k) w p
+        → holds (symbolOf (bookOf tm) q) e σ ≡ true → Trail (e ∷ t) 1 (symbolAt (tm .pattern) 1 q ∷ []) q
+    taken : {e : Event} {t : List Event} {k : ℕ} {w : List ℕ} {p q : ℕ} → Trail t k w p → Has q (following (tm .pattern) 1 p)
+        → holds (symbolOf (bookOf tm) q) e σ ≡ true → Trail (e ∷ t) (suc k) (symbolAt (tm .pattern) 1 q ∷ w) q
+    passedOver : {e : Event} {t : List Event} {k : ℕ} {w : List ℕ} {p : ℕ} → Trail t k w p → concerns (tm .symbols) e σ ≡ false
+        → Trail (e ∷ t) (suc k) w p
 
   -- some path stands at q
   abbrev Stands : List Event → ℕ → Type 0
-  Stands t q = (k : ℕ) × (w : List ℕ) × Path t k w q
+  Stands t q = (k : ℕ) × (w : List ℕ) × Trail t k w q
 
   -- a symbol that holds is one of the tracematch, so the event concerns σ
   taken-concerns : {q : ℕ} (e : Event) → Among (tm .pattern) 1 q → holds (symbolOf (bookOf tm) q) e σ ≡ true
@@ -125,18 +125,18 @@ module _ (tm : Tracematch) (ok : Proper tm) (σ : Valuation) (may : ℕ → Bool
 
   -- one event more
   module _ (t : List Event) (e : Event) (at : ℕ → Bool) (ih : (p : ℕ) → (at p ≡ true) ↔ Stands t p) where
-    abbrev here : Book
-    here = limited (may (suc (length t))) (bookOf tm)
+    abbrev bookHere : Book
+    bookHere = limited (may (suc (length t))) (bookOf tm)
 
     -- some path leads on to position q
     abbrev led : ℕ → Bool
     led q = any (λ p. followsAt (bookOf tm) p q && at p) (positions (bookOf tm))
 
-    steps-path : (q : ℕ) → steps here σ at e q ≡ true → (concerns (tm .symbols) e σ ≡ true) × Stands (e ∷ t) q
+    steps-path : (q : ℕ) → steps bookHere σ at e q ≡ true → (concerns (tm .symbols) e σ ≡ true) × Stands (e ∷ t) q
     unfolding bookOf
     steps-path q s =
         let b = bookOf tm in
-        let hs = and-true-split (holds (symbolOf b q) e σ) (beginsAt here q || led q) s in
+        let hs = and-true-split (holds (symbolOf b q) e σ) (beginsAt bookHere q || led q) s in
         ⊎-elim
         (λ h. let (m, x) = limited-begins (may (suc (length t))) (b .begins) q h in
         (taken-concerns e (beginning-among (tm .pattern) 1 q x) (hs .0) .2, (1, _, begun m x (hs .0))))
@@ -145,32 +145,32 @@ module _ (tm : Tracematch) (ok : Proper tm) (σ : Valuation) (may : ℕ → Bool
         let f : Has q (following (tm .pattern) 1 (p .0)) = rw (followsAt-bit tm (positions-among tm (p .0) .0 (p .1)) q) at (fs .0) in
         let (k, w, x) = ih (p .0) .0 (fs .1) in
         (taken-concerns e (following-among (tm .pattern) 1 (p .0) q f .1) (hs .0) .2, (suc k, _, taken x f (hs .0))))
-        (or-true-split (beginsAt here q) (led q) (hs .1))
+        (or-true-split (beginsAt bookHere q) (led q) (hs .1))
 
     -- a path of the trace with e was begun or taken on by e, or passed over it
-    path-moves : {k : ℕ} {w : List ℕ} {q : ℕ} → Path (e ∷ t) k w q
-        → (steps here σ at e q ≡ true) ⊎ ((at q ≡ true) × (concerns (tm .symbols) e σ ≡ false))
+    path-moves : {k : ℕ} {w : List ℕ} {q : ℕ} → Trail (e ∷ t) k w q
+        → (steps bookHere σ at e q ≡ true) ⊎ ((at q ≡ true) × (concerns (tm .symbols) e σ ≡ false))
     unfolding bookOf
     path-moves {q = q} (begun m h x) = inl (ap₂ _&&_ x (ap (λ y. y || led q) (ap (λ z. bit q (cond z (bookOf tm .begins) 0)) m ∙ h)))
     path-moves {q = q} (taken {k = k} {w = w} {p = p} y h x) =
         let b = bookOf tm in
         let a = following-among (tm .pattern) 1 p q h in
         let c = ap₂ _&&_ (followsAt-bit tm (a .0) q ∙ h) (ih p .1 (k, w, y)) in
-        inl (ap₂ _&&_ x (or-right (beginsAt here q) (any-of (λ p. followsAt b p q && at p) (positions-among tm p .1 (a .0)) c)))
+        inl (ap₂ _&&_ x (or-right (beginsAt bookHere q) (any-of (λ p. followsAt b p q && at p) (positions-among tm p .1 (a .0)) c)))
     path-moves {q = q} (passedOver {k = k} {w = w} y n) = inr (ih q .1 (k, w, y), n)
 
-    moves-path : (p : ℕ) → (moves here σ at e p ≡ true) ↔ Stands (e ∷ t) p
+    moves-path : (p : ℕ) → (moves bookHere σ at e p ≡ true) ↔ Stands (e ∷ t) p
     unfolding bookOf
     moves-path p = (
       λ h. ⊎-elim (λ a. let s = and-true-split (at p) (not (concerns (tm .symbols) e σ)) a in
           let (k, w, x) = ih p .0 (s .0) in (suc k, w, passedOver x (not-true (concerns (tm .symbols) e σ) (s .1))))
-          (λ s. steps-path p s .1) (or-true-split (at p && not (concerns (tm .symbols) e σ)) (steps here σ at e p) h),
+          (λ s. steps-path p s .1) (or-true-split (at p && not (concerns (tm .symbols) e σ)) (steps bookHere σ at e p) h),
       λ (k, w, x). ⊎-elim (or-right (at p && not (concerns (tm .symbols) e σ)))
-          (λ (y, n). ap₂ (λ x z. x && not z || steps here σ at e p) y n) (path-moves x),
+          (λ (y, n). ap₂ (λ x z. x && not z || steps bookHere σ at e p) y n) (path-moves x),
     )
 
   -- a path has an event that began it
-  some-newer : {t : List Event} {k : ℕ} {w : List ℕ} {q : ℕ} → Path t k w q → 1 ≤ length t
+  some-newer : {t : List Event} {k : ℕ} {w : List ℕ} {q : ℕ} → Trail t k w q → 1 ≤ length t
   some-newer (begun m h x) = omega arith
   some-newer (taken y h x) = omega arith
   some-newer (passedOver y n) = omega arith
@@ -181,31 +181,31 @@ module _ (tm : Tracematch) (ok : Proper tm) (σ : Valuation) (may : ℕ → Bool
   reached-path (e ∷ t) p = moves-path t e (reached may (bookOf tm) σ t) (reached-path t) p
 
   -- the oldest of the newest k events concerns σ and may begin a match
-  record Begins (t : List Event) (k : ℕ) : Type 0 where
+  record BegunAt (t : List Event) (k : ℕ) : Type 0 where
     some : 1 ≤ k
     inside : k ≤ length t
     concerned : concerns (tm .symbols) (getD t (k - 1) noEvent) σ ≡ true
     allowed : may (suc (length t - k)) ≡ true
 
-  begins-more : (e : Event) {t : List Event} {k : ℕ} → Begins t k → Begins (e ∷ t) (suc k)
+  begins-more : (e : Event) {t : List Event} {k : ℕ} → BegunAt t k → BegunAt (e ∷ t) (suc k)
   begins-more e {t} {k} b =
-      let here : suc k - 1 ≡ suc (k - 1) = omega (arith, b .some) in
+      let place : suc k - 1 ≡ suc (k - 1) = omega (arith, b .some) in
       let same : length (e ∷ t) - suc k ≡ length t - k = omega arith in
-      record { some = omega arith; inside = omega (arith, b .inside); concerned = rw here (b .concerned); allowed = rw same (b .allowed) }
+      record { some = omega arith; inside = omega (arith, b .inside); concerned = rw place (b .concerned); allowed = rw same (b .allowed) }
 
-  begins-fewer : (e : Event) {t : List Event} {k : ℕ} → 1 ≤ k → Begins (e ∷ t) (suc k) → Begins t k
+  begins-fewer : (e : Event) {t : List Event} {k : ℕ} → 1 ≤ k → BegunAt (e ∷ t) (suc k) → BegunAt t k
   begins-fewer e {t} {k} h b =
-      let here : suc k - 1 ≡ suc (k - 1) = omega arith in
+      let place : suc k - 1 ≡ suc (k - 1) = omega arith in
       let same : length (e ∷ t) - suc k ≡ length t - k = omega arith in
-      record { some = h; inside = omega (arith, b .inside); concerned = rw here at (b .concerned); allowed = rw same at (b .allowed) }
+      record { some = h; inside = omega (arith, b .inside); concerned = rw place at (b .concerned); allowed = rw same at (b .allowed) }
 
   -- the newest k events, those that concern σ, read as a word that is spelled up to q
   record Came (t : List Event) (k : ℕ) (w : List ℕ) (q : ℕ) : Type 0 where
     reading : Reading tm σ (concerning tm σ (take k t)) w
     path : Reach (tm .pattern) w q
-    begins : Begins t k
+    begins : BegunAt t k
 
-  path-came : {t : List Event} {k : ℕ} {w : List ℕ} {q : ℕ} → Path t k w q → Came t k w q
+  path-came : {t : List Event} {k : ℕ} {w : List ℕ} {q : ℕ} → Trail t k w q → Came t k w q
   path-came (begun {e = e} {t = t} {q = q} m h x) =
       let (l, g, c) = taken-concerns e (beginning-among (tm .pattern) 1 q h) x in
       let same : length (e ∷ t) - 1 ≡ length t = omega arith in
@@ -223,7 +223,7 @@ module _ (tm : Tracematch) (ok : Proper tm) (σ : Valuation) (may : ℕ → Bool
       record { reading = rw n (r .reading); path = r .path; begins = begins-more e (r .begins) }
 
   -- something of the newest k events concerns σ, if the oldest does
-  some-concerned : (t : List Event) (k : ℕ) → Begins t k → 1 ≤ length (concerning tm σ (take k t))
+  some-concerned : (t : List Event) (k : ℕ) → BegunAt t k → 1 ≤ length (concerning tm σ (take k t))
   some-concerned t k b =
       let m = mem-getD (take k t) (k - 1) noEvent (omega (arith, length-take k t, b .some, b .inside)) in
       let n = rw (getD-take k t (k - 1) noEvent (omega (arith, b .some))) at m in
@@ -236,10 +236,10 @@ module _ (tm : Tracematch) (ok : Proper tm) (σ : Valuation) (may : ℕ → Bool
 
   -- what is read as a word that begins with event e
   read-path : (e : Event) (t : List Event) (k : ℕ) {w : List ℕ} {q : ℕ} → Reading tm σ (e ∷ concerning tm σ (take k t)) w → Reach (tm .pattern) w q
-      → Begins (e ∷ t) (suc k) → ((v : List ℕ) (p : ℕ) → Came t k v p → Path t k v p) → Path (e ∷ t) (suc k) w q
+      → BegunAt (e ∷ t) (suc k) → ((v : List ℕ) (p : ℕ) → Came t k v p → Trail t k v p) → Trail (e ∷ t) (suc k) w q
   read-path e t k d (start {p = q} h) b ih = go k b (reading-length tm σ (first-read (beginning-among (tm .pattern) 1 q h) d .1))
     where
-      go : (k : ℕ) → Begins (e ∷ t) (suc k) → length (concerning tm σ (take k t)) ≡ 0 → Path (e ∷ t) (suc k) (symbolAt (tm .pattern) 1 q ∷ []) q
+      go : (k : ℕ) → BegunAt (e ∷ t) (suc k) → length (concerning tm σ (take k t)) ≡ 0 → Trail (e ∷ t) (suc k) (symbolAt (tm .pattern) 1 q ∷ []) q
       go zero b z =
           let same : length (e ∷ t) - 1 ≡ length t = omega arith in
           begun (rw same at (b .allowed)) h (first-read (beginning-among (tm .pattern) 1 q h) d .0)
@@ -250,19 +250,19 @@ module _ (tm : Tracematch) (ok : Proper tm) (σ : Valuation) (may : ℕ → Bool
       let some : 1 ≤ k = omega (arith, reading-length tm σ rest, reach-long tm σ r, keep-length f (take k t), length-take k t) in
       taken (ih v p (record { reading = rest; path = r; begins = begins-fewer e some b })) h x
 
-  came-path : (t : List Event) (k : ℕ) (w : List ℕ) (q : ℕ) → Came t k w q → Path t k w q
+  came-path : (t : List Event) (k : ℕ) (w : List ℕ) (q : ℕ) → Came t k w q → Trail t k w q
   came-path [] k w q c = absurd (omega (arith, c .begins .some, c .begins .inside))
   came-path (e ∷ t) zero w q c = absurd (omega (arith, c .begins .some))
   came-path (e ∷ t) (suc k) w q c = go (concerns (tm .symbols) e σ) refl (c .reading) (λ v p. came-path t k v p)
     where
       -- e is passed over, so the first event is another
-      further : (k : ℕ) → concerns (tm .symbols) e σ ≡ false → Begins (e ∷ t) (suc k) → 1 ≤ k
+      further : (k : ℕ) → concerns (tm .symbols) e σ ≡ false → BegunAt (e ∷ t) (suc k) → 1 ≤ k
       further zero n b = absurd (true≢false (sym (b .concerned) ∙ n))
       further (suc k) n b = omega arith
 
       go : (z : Bool) → concerns (tm .symbols) e σ ≡ z
-          → Reading tm σ (let es = concerning tm σ (take k t) in cond z (e ∷ es) es) w → ((v : List ℕ) (p : ℕ) → Came t k v p → Path t k v p)
-          → Path (e ∷ t) (suc k) w q
+          → Reading tm σ (let es = concerning tm σ (take k t) in cond z (e ∷ es) es) w → ((v : List ℕ) (p : ℕ) → Came t k v p → Trail t k v p)
+          → Trail (e ∷ t) (suc k) w q
       go true n d ih = read-path e t k d (c .path) (c .begins) ih
       go false n d ih =
           passedOver (ih w q (record { reading = d; path = c .path; begins = begins-fewer e (further k n (c .begins)) (c .begins) })) n

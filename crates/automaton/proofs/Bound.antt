@@ -137,8 +137,8 @@ module _ (tm : Tracematch) where
 
   -- the book, or the same with fewer beginning positions
   module _ (m : ℕ) (fewer : (q : ℕ) → bit q m ≡ true → Has q (Positions.beginning (tm .pattern) 1)) (held : List Held) (backed : AllBacked held) (e : Event) where
-    abbrev book : Book
-    book = startingAt m (bookOf tm)
+    abbrev fewerBook : Book
+    fewerBook = startingAt m (bookOf tm)
 
     -- a path to q that goes on from one behind D is behind D met with the constraint of q's symbol
     step-on : (q : ℕ) (w : List ℕ) (D : Disjunct) → Reach (tm .pattern) (Positions.symbolAt (tm .pattern) 1 q ∷ w) q → length D ≡ tm .variables
@@ -153,35 +153,35 @@ module _ (tm : Tracematch) where
           (λ x. met-keeps (constraintOf (symbolOf (bookOf tm) q) e) D v (rw l h) (old v h x)) (or-true-split _ _ n);
     }
 
-    step-backed : (q : ℕ) (D : Disjunct) → List·Memᴰ D (sources book held q) → meets D (constraintOf (symbolOf (bookOf tm) q) e) ≡ true
+    step-backed : (q : ℕ) (D : Disjunct) → List·Memᴰ D (sources fewerBook held q) → meets D (constraintOf (symbolOf (bookOf tm) q) e) ≡ true
         → Backed q (met D (constraintOf (symbolOf (bookOf tm) q) e))
     unfolding bookOf
     step-backed q D n k =
         ⊎-elim (λ s. step-on q [] D (start (fewer q (s .0))) (ap length (s .1) ∙ length-replicate _ _) (λ v h n. absurd (false≢true n)) k)
         (λ s. let o = backed (s .0) (s .1) in
         step-on q (o .word) D (next (o .path) (follows-has q (o .path) (s .2))) (ap length (s .3) ∙ o .wide) (rw (s .3) (o .binding)) k)
-        (source-cases book held q n)
+        (source-cases fewerBook held q n)
 
-    skip-backed : (p : ℕ) (D : Disjunct) → List·Memᴰ D (skipSet book held e p) → Backed p D
+    skip-backed : (p : ℕ) (D : Disjunct) → List·Memᴰ D (skipSet fewerBook held e p) → Backed p D
     skip-backed p =
         skip-kept e (Backed p) (λ s D o E n. let same = skip-free (constraintOf s e) D E n in record {
           wide = sym (length-map E isFree) ∙ ap length same ∙ length-map D isFree ∙ o .wide;
           word = o .word;
           path = o .path;
           binding = λ v h k. same-value D E same v (o .binding v h k);
-        }) book held p (λ D m. let r = label-held held p m in subst₂ Backed (r .2) (sym (r .3)) (backed (r .0) (r .1)))
+        }) fewerBook held p (λ D m. let r = label-held held p m in subst₂ Backed (r .2) (sym (r .3)) (backed (r .0) (r .1)))
 
-    new-backed : AllBacked (newHeld book held e)
+    new-backed : AllBacked (newHeld fewerBook held e)
     new-backed h n =
         ⊎-elim (skip-backed (h .position) (h .disjunct))
-        (λ n. let r = stepSet-member book held e (h .position) (h .disjunct) .0 n in rw (r .3) (step-backed (h .position) (r .0) (r .1) (r .2)))
-        (new-cases book held e h n .1)
+        (λ n. let r = stepSet-member fewerBook held e (h .position) (h .disjunct) .0 n in rw (r .3) (step-backed (h .position) (r .0) (r .1) (r .2)))
+        (new-cases fewerBook held e h n .1)
 
-    none-free : Proper tm → leavesFree book held e ≡ false
+    none-free : Proper tm → leavesFree fewerBook held e ≡ false
     unfolding leavesFree bookOf
     none-free ok = none-pass _ _ λ q i. none-pass _ _ λ D n. go q D (mem-keep (endsAt (bookOf tm)) q (positions (bookOf tm)) .0 i .1) n _ refl
       where
-        go : (q : ℕ) (D : Disjunct) → endsAt (bookOf tm) q ≡ true → List·Memᴰ D (sources book held q)
+        go : (q : ℕ) (D : Disjunct) → endsAt (bookOf tm) q ≡ true → List·Memᴰ D (sources fewerBook held q)
             → (t : Bool) → meets D (constraintOf (symbolOf (bookOf tm) q) e) ≡ t → (t && any isFree (met D (constraintOf (symbolOf (bookOf tm) q) e))) ≡ false
         go q D ends m false k = refl
         go q D ends m true k = backed-closed ok ends (step-backed q D m k)

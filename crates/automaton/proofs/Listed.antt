@@ -49,38 +49,38 @@ module _ (tm : Tracematch) (ok : Proper tm) (may : ℕ → Bool) (n : ℕ) (befo
   turned : reverse (e ∷ reverse (traceOf before)) ≡ traceOf before ++ (e ∷ [])
   turned = reverse-cons e (reverse (traceOf before)) ∙ ap (λ (l : List Event). l ++ (e ∷ [])) (reverse-reverse (traceOf before))
 
-  abbrev Found : List Event → ℕ → Type 0
-  Found t k = (first : ℕ) × MatchFrom (λ i. may (n + i)) tm t first (suc k) σ
+  abbrev FoundIn : List Event → ℕ → Type 0
+  FoundIn t k = (first : ℕ) × MatchFrom (λ i. may (n + i)) tm t first (suc k) σ
 
-  abbrev back : List Event
-  back = reverse (traceOf before)
+  abbrev newestFirst : List Event
+  newestFirst = reverse (traceOf before)
 
   -- the book at the event, and what is held there
-  abbrev here : Book
-  here = limited (may (n + suc (length back))) (bookOf tm)
+  abbrev bookThen : Book
+  bookThen = limited (may (n + suc (length newestFirst))) (bookOf tm)
 
   abbrev held : List Held
   held = run (nextBy may (bookOf tm)) (freshAt n) before .held
 
-  row-matched : List·Memᴰ σ (rows here held e) → Matched
+  row-matched : List·Memᴰ σ (rows bookThen held e) → Matched
   unfolding bookOf
   row-matched m =
       let (_, inv) = tracked (bookOf tm) (ok .symbols) may n before in
-      let none = none-left-free-by tm ok may n before (may (n + suc (length back))) e in
-      let done = row-completes (bookOf tm) (ok .symbols) (here .begins) held _ inv e none σ m in
-      let w = row-width (bookOf tm) (ok .symbols) (here .begins) held _ inv e none σ m in
-      let (c, f) = completed-match tm ok (λ i. may (n + i)) σ back e .0 done in
-      let (first, g) = subst₂ Found turned (length-reverse (traceOf before)) f in
+      let none = none-left-free-by tm ok may n before (may (n + suc (length newestFirst))) e in
+      let done = row-completes (bookOf tm) (ok .symbols) (bookThen .begins) held _ inv e none σ m in
+      let w = row-width (bookOf tm) (ok .symbols) (bookThen .begins) held _ inv e none σ m in
+      let (c, f) = completed-match tm ok (λ i. may (n + i)) σ newestFirst e .0 done in
+      let (first, g) = subst₂ FoundIn turned (length-reverse (traceOf before)) f in
       (match-valuation tm ok _ good first _ σ w (g .match), c, (first, g))
 
-  matched-row : Matched → List·Memᴰ σ (rows here held e)
+  matched-row : Matched → List·Memᴰ σ (rows bookThen held e)
   unfolding bookOf
   matched-row (v, c, f) =
       let (_, inv) = tracked (bookOf tm) (ok .symbols) may n before in
-      let none = none-left-free-by tm ok may n before (may (n + suc (length back))) e in
+      let none = none-left-free-by tm ok may n before (may (n + suc (length newestFirst))) e in
       let done =
-      completed-match tm ok (λ i. may (n + i)) σ back e .1 (c, subst₂ Found (sym turned) (sym (length-reverse (traceOf before))) f) in
-      completes-row (bookOf tm) (ok .symbols) (here .begins) held _ inv e none σ (valuation-length (tm .variables) σ v) done
+      completed-match tm ok (λ i. may (n + i)) σ newestFirst e .1 (c, subst₂ FoundIn (sym turned) (sym (length-reverse (traceOf before))) f) in
+      completes-row (bookOf tm) (ok .symbols) (bookThen .begins) held _ inv e none σ (valuation-length (tm .variables) σ v) done
 
   pub listed-by : List·Memᴰ σ (rows (limited (may (n + suc (length (traceOf before)))) (bookOf tm)) (run (nextBy may (bookOf tm)) (freshAt n) before .held) e)
       ↔ Matched

@@ -48,15 +48,15 @@ module _ (b : Book) (formed : all (soundSymbol (b .variables)) (b .symbols) ≡ 
 
   -- an event, with any set of beginning positions
   module _ (m : ℕ) (held : List Held) (at : Valuation → ℕ → Bool) (inv : Tracks b held at) (e : Event) where
-    abbrev book : Book
-    book = startingAt m b
+    abbrev anyStart : Book
+    anyStart = startingAt m b
 
     module _ (σ : Valuation) (w : length σ ≡ b .variables) where
       -- the step set of q holds σ where the run steps to q
-      step-stands : (q : ℕ) → any (fits σ) (stepSet book held e q) ≡ steps book σ (at σ) e q
+      step-stands : (q : ℕ) → any (fits σ) (stepSet anyStart held e q) ≡ steps anyStart σ (at σ) e q
       step-stands q =
-          stepSet-fits book formed held (inv .full) e σ w q
-          ∙ ap (λ (x : Bool). holds (symbolOf b q) e σ && (beginsAt book q || x))
+          stepSet-fits anyStart formed held (inv .full) e σ w q
+          ∙ ap (λ (x : Bool). holds (symbolOf b q) e σ && (beginsAt anyStart q || x))
           (inv .stands σ w (λ p. followsAt b p q)
           ∙ any-agree _ _ (positions b) (λ p m. go p (followsAt b p q) refl))
         where
@@ -67,9 +67,9 @@ module _ (b : Book) (formed : all (soundSymbol (b .variables)) (b .symbols) ≡ 
           go p false e = rw e
 
       skip-stands : (p : ℕ) → List·Memᴰ p (positions b) → goesOn b p ≡ true
-          → any (fits σ) (skipSet book held e p) ≡ (at σ p && not (concerns (b .symbols) e σ))
+          → any (fits σ) (skipSet anyStart held e p) ≡ (at σ p && not (concerns (b .symbols) e σ))
       skip-stands p m g =
-          skipSet-fits book formed held (inv .full) e σ w p
+          skipSet-fits anyStart formed held (inv .full) e σ w p
           ∙ ap (λ (x : Bool). x && not (concerns (b .symbols) e σ))
           (inv .stands σ w (λ q. eqb q p)
           ∙ same-test _ _
@@ -78,39 +78,39 @@ module _ (b : Book) (formed : all (soundSymbol (b .variables)) (b .symbols) ≡ 
           subst (λ (q : ℕ). at σ q ≡ true) (eqb-true (f .0) p (s .0)) (and-true-split (goesOn b (f .0)) (at σ (f .0)) (s .1) .1))
           (λ a. any-of _ m (rw (eq-eqb p p refl, g, a))))
 
-    pub tracks-next : Tracks b (newHeld book held e) (λ σ. moves book σ (at σ) e)
+    pub tracks-next : Tracks b (newHeld anyStart held e) (λ σ. moves anyStart σ (at σ) e)
     tracks-next = record {
-      full = newHeld-wide book formed held (inv .full) e;
+      full = newHeld-wide anyStart formed held (inv .full) e;
       stands = λ σ w F.
-          newHeld-fits book formed held (inv .full) e σ w F ∙ any-agree _ _ (positions b) (λ p m. ap (F p &&_) (go p m σ w (goesOn b p) refl));
+          newHeld-fits anyStart formed held (inv .full) e σ w F ∙ any-agree _ _ (positions b) (λ p m. ap (F p &&_) (go p m σ w (goesOn b p) refl));
     }
       where
         go : (p : ℕ) → List·Memᴰ p (positions b) → (σ : Valuation) → length σ ≡ b .variables → (g : Bool) → goesOn b p ≡ g
-            → (g && (any (fits σ) (skipSet book held e p) || any (fits σ) (stepSet book held e p))) ≡ (g && moves book σ (at σ) e p)
+            → (g && (any (fits σ) (skipSet anyStart held e p) || any (fits σ) (stepSet anyStart held e p))) ≡ (g && moves anyStart σ (at σ) e p)
         go p m σ w true g = rw (skip-stands σ w p m g, step-stands σ w p)
         go p m σ w false g = refl
 
     -- the rows of an event are the valuations for which the run comes to an end with it
-    module _ (none : leavesFree book held e ≡ false) (σ : Valuation) where
-      pub row-width : List·Memᴰ σ (rows book held e) → length σ ≡ b .variables
+    module _ (none : leavesFree anyStart held e ≡ false) (σ : Valuation) where
+      pub row-width : List·Memᴰ σ (rows anyStart held e) → length σ ≡ b .variables
       row-width m =
-          let (q, among, ends, (D, step, value)) = rows-member book held e σ .0 m in
+          let (q, among, ends, (D, step, value)) = rows-member anyStart held e σ .0 m in
           ap length value ∙ length-map D valueOf
-          ∙ eqb-true _ _ (all-at (λ E. eqb (length E) (b .variables)) (stepSet-wide book formed held (inv .full) e q) step)
+          ∙ eqb-true _ _ (all-at (λ E. eqb (length E) (b .variables)) (stepSet-wide anyStart formed held (inv .full) e q) step)
 
-      pub row-completes : List·Memᴰ σ (rows book held e) → completes book σ (at σ) e ≡ true
+      pub row-completes : List·Memᴰ σ (rows anyStart held e) → completes anyStart σ (at σ) e ≡ true
       row-completes m =
-          let (q, among, ends, (D, step, value)) = rows-member book held e σ .0 m in
-          let stands = any-of (fits σ) step (closed-fits σ D (closed book held e none q among ends D step) .1 value) in
+          let (q, among, ends, (D, step, value)) = rows-member anyStart held e σ .0 m in
+          let stands = any-of (fits σ) step (closed-fits σ D (closed anyStart held e none q among ends D step) .1 value) in
           any-of _ among (rw (ends, ← step-stands σ (row-width m) q) stands)
 
-      pub completes-row : length σ ≡ b .variables → completes book σ (at σ) e ≡ true → List·Memᴰ σ (rows book held e)
+      pub completes-row : length σ ≡ b .variables → completes anyStart σ (at σ) e ≡ true → List·Memᴰ σ (rows anyStart held e)
       completes-row w h =
           let f = any-found _ (positions b) h in
           let s = and-true-split (endsAt b (f .0)) _ (f .2) in
-          let g = any-found (fits σ) (stepSet book held e (f .0)) (step-stands σ w (f .0) ∙ s .1) in
-          let none-free = closed book held e none (f .0) (f .1) (s .0) (g .0) (g .1) in
-          rows-member book held e σ .1 (f .0, f .1, s .0, (g .0, g .1, closed-fits σ (g .0) none-free .0 (g .2)))
+          let g = any-found (fits σ) (stepSet anyStart held e (f .0)) (step-stands σ w (f .0) ∙ s .1) in
+          let none-free = closed anyStart held e none (f .0) (f .1) (s .0) (g .0) (g .1) in
+          rows-member anyStart held e σ .1 (f .0, f .1, s .0, (g .0, g .1, closed-fits σ (g .0) none-free .0 (g .2)))
 
   -- Along a run from nothing held, whichever events may begin a match: what is held tracks the automaton over the trace, newest event first. The
   -- trace is a run too, so this is the law of two runs that stay alike.

@@ -10,7 +10,7 @@ use lib.ListN.{length, getD}
 use Rattle.laws.specs.Bits.{bit}
 use Rattle.laws.specs.Lists.{any, all}
 use Rattle.laws.specs.Order.{ascending}
-use Rattle.runs.specs.Runs.{ended, called}
+use Rattle.runs.specs.Runs.{noCall, nextCall}
 use Rattle.runs.specs.Pairs.{Pairing}
 use Rattle.pattern.specs.Regex.{Regex, lit, cat, alt, star, plus, opt, In}
 use Rattle.pattern.specs.Positions.{size, symbols, beginning, ending, following, symbolAt, Has, Onward, stop, on, Spelling, Reach, start, next}
@@ -75,17 +75,17 @@ pub orderly-said : (b : Book) (s : State) (e : Event) (cs : List Call)
     × (OrderlyFrom b s (event e false ∷ cs) ↔ OrderlyFrom b s cs)
 orderly-said b s e cs = (
   refl,
-  ended,
-  (taken, λ (w, l, r, o). called (λ _. record { formed = w; below = l; roomy = r }) o),
-  (left, λ o. called (λ h. absurd (false≢true h)) o),
+  noCall,
+  (taken, λ (w, l, r, o). nextCall (λ _. record { formed = w; below = l; roomy = r }) o),
+  (left, λ o. nextCall (λ h. absurd (false≢true h)) o),
 )
   where
     taken : OrderlyFrom b s (event e true ∷ cs)
         → (wellFormed e ≡ true) × (s .number < 1000000) × (room b (s .held) e ≡ true) × OrderlyFrom b (Labels.next b s e) cs
-    taken (called p o) = let a = p refl in (a .formed, a .below, a .roomy, o)
+    taken (nextCall p o) = let a = p refl in (a .formed, a .below, a .roomy, o)
 
     left : OrderlyFrom b s (event e false ∷ cs) → OrderlyFrom b s cs
-    left (called p o) = o
+    left (nextCall p o) = o
 
 pub proper-said : (tm : Tracematch)
     → Proper tm

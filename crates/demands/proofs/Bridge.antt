@@ -105,8 +105,8 @@ plain ms = map plainCall ms
 -- The checks of a call in a plain state, by the definitions of the crate meaning, each by its answer: when it fails, and when it passes.
 module _ (tm : Tracematch) (s : State) (l : Lent) where
   -- where the rows would end
-  abbrev size : ℕ
-  size = l .place + rowSize * length (rows (bookOf tm) (s .held) (eventIn (l .bytes)))
+  abbrev rowsEnd : ℕ
+  rowsEnd = l .place + rowSize * length (rows (bookOf tm) (s .held) (eventIn (l .bytes)))
 
   abbrev pub FailsIn : EventAnswer → Type 0
   FailsIn Accepted = ⊥
@@ -114,7 +114,7 @@ module _ (tm : Tracematch) (s : State) (l : Lent) where
   FailsIn OutOfForm = isRecord (l .bytes) ≡ false
   FailsIn TooMany = s .number ≡ eventLimit
   FailsIn NoRoom = room (bookOf tm) (s .held) (eventIn (l .bytes)) ≡ false
-  FailsIn NoSpace = length (l .buffer) < size
+  FailsIn NoSpace = length (l .buffer) < rowsEnd
 
   abbrev pub PassesIn : EventAnswer → Type 0
   PassesIn Accepted = ⊥ → ⊥
@@ -122,7 +122,7 @@ module _ (tm : Tracematch) (s : State) (l : Lent) where
   PassesIn OutOfForm = isRecord (l .bytes) ≡ true
   PassesIn TooMany = s .number < eventLimit
   PassesIn NoRoom = room (bookOf tm) (s .held) (eventIn (l .bytes)) ≡ true
-  PassesIn NoSpace = size ≤ length (l .buffer)
+  PassesIn NoSpace = rowsEnd ≤ length (l .buffer)
 
   -- the answer to the call
   pub record Decision (a : EventAnswer) : Type 0 where
@@ -136,7 +136,7 @@ module _ (tm : Tracematch) (s : State) (l : Lent) where
   pub in-form : {a : EventAnswer} → Decision a → isAccepted a ≡ true → isRecord (l .bytes) ≡ true
   in-form d h = all-pass d h OutOfForm (List·Memᴰ·head refl)
 
-  pub fitting : {a : EventAnswer} → Decision a → isAccepted a ≡ true → size ≤ length (l .buffer)
+  pub fitting : {a : EventAnswer} → Decision a → isAccepted a ≡ true → rowsEnd ≤ length (l .buffer)
   fitting d h = all-pass d h NoSpace (List·Memᴰ·tail (List·Memᴰ·tail (List·Memᴰ·tail (List·Memᴰ·head refl))))
 
   pub admissible : {a : EventAnswer} → Decision a → isAccepted a ≡ true → (isRecord (l .bytes) ≡ true → wellFormed (eventIn (l .bytes)) ≡ true)

@@ -168,25 +168,25 @@ module _ (b : Book) (tm : Tracematch) (rd : Read b tm) (n : ℕ) (few : n ≤ ev
   mirrors-next z s (e, h) c x = rw e (done-state b tm rd s h c x, done-steady b tm rd s h c x)
 
   -- the plain state behind calls that were made
-  abbrev pub behind : List Made → State
-  behind ms = Runs.run (next (bookOf tm)) (freshAt n) (plain ms)
+  abbrev pub plainBehind : List Made → State
+  plainBehind ms = Runs.run (next (bookOf tm)) (freshAt n) (plain ms)
 
   pub mirrored : (cs : List Call) → allBytes cs ≡ true
-      → Mirrors (stateFrom (watching b) (stateOf (freshAt n)) cs) (behind (runFrom b (stateOf (freshAt n)) cs))
+      → Mirrors (stateFrom (watching b) (stateOf (freshAt n)) cs) (plainBehind (runFrom b (stateOf (freshAt n)) cs))
   mirrored cs bytes =
       followed (watching b) (Runs.plainMachine (next (bookOf tm)) (λ s e. e)) plainCall Mirrors {P = λ c. isBytes (lentAt c .bytes) ≡ true} mirrors-next
       (stateOf (freshAt n)) (freshAt n) (refl, steady-fresh tm n few) cs (λ c m. all-at (λ c. isBytes (lentAt c .bytes)) bytes m)
 
   -- the call in a place met the state behind the calls before it
   pub course-at : (cs : List Call) → allBytes cs ≡ true → (k : ℕ) (m : Made) → Within (runFrom b (stateOf (freshAt n)) cs) k m
-      → Done tm (behind (take k (runFrom b (stateOf (freshAt n)) cs))) m
+      → Done tm (plainBehind (take k (runFrom b (stateOf (freshAt n)) cs))) m
   course-at cs bytes k m w =
       let z = stateOf (freshAt n) in
       let (c, v, e) = result-at (watching b) z cs k m w in
       let (x, h) = mirrored (take k cs) (all-take (λ c. isBytes (lentAt c .bytes)) k cs bytes) in
-      let s = behind (runFrom b z (take k cs)) in
+      let s = plainBehind (runFrom b z (take k cs)) in
       let d : Done tm s (make b (stateOf s) c) = done b tm rd s h c (all-at (λ c. isBytes (lentAt c .bytes)) bytes (within-mem v)) in
-      subst (λ l. Done tm (behind l) m) (sym (results-take (watching b) z k cs)) (subst (Done tm s) (sym (e ∙ ap (λ y. make b y c) x)) d)
+      subst (λ l. Done tm (plainBehind l) m) (sym (results-take (watching b) z k cs)) (subst (Done tm s) (sym (e ∙ ap (λ y. make b y c) x)) d)
 
 -- the trace of the plain run, and how many events it has
 pub trace-plain : (ms : List Made) → Runs.traceOf (plain ms) ≡ traceOf ms

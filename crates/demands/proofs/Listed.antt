@@ -31,29 +31,29 @@ use Rattle.demands.proofs.Course.{Placed, accepted-at, trace-plain, tra
 
 -- An accepted call in its place of a run that began with nothing held after n events.
 module _ (tm : Tracematch) (n : ℕ) (ms : List Made) (i : ℕ) (m : Made) (p : Placed tm n ms i m) where
-  abbrev now : Event
-  now = eventIn (m .lent .bytes)
+  abbrev eventNow : Event
+  eventNow = eventIn (m .lent .bytes)
 
-  abbrev calls : List Runs.Call
-  calls = plain (take (p .place) ms)
+  abbrev callsBefore : List Runs.Call
+  callsBefore = plain (take (p .place) ms)
 
   -- the state that it met
-  abbrev met : State
-  met = Runs.run (next (bookOf tm)) (freshAt n) calls
+  abbrev metState : State
+  metState = Runs.run (next (bookOf tm)) (freshAt n) callsBefore
 
-  met-number : met .number ≡ n + i
-  met-number = ap (λ s. s .number) (run-state (bookOf tm) (freshAt n) calls) ∙ ap (λ k. n + k) (ap length (trace-plain (take (p .place) ms)) ∙ p .count)
+  met-number : metState .number ≡ n + i
+  met-number = ap (λ s. s .number) (run-state (bookOf tm) (freshAt n) callsBefore) ∙ ap (λ k. n + k) (ap length (trace-plain (take (p .place) ms)) ∙ p .count)
 
   -- its rows are those of the meaning over the trace of the run
-  met-listed : Proper tm → all wellFormed (traceOf ms) ≡ true → Listed tm (traceOf ms) (suc i) (rows (bookOf tm) (met .held) now)
+  met-listed : Proper tm → all wellFormed (traceOf ms) ≡ true → Listed tm (traceOf ms) (suc i) (rows (bookOf tm) (metState .held) eventNow)
   met-listed ok good =
       let same = trace-plain (take (p .place) ms) in
-      let upto : take (suc i) (traceOf ms) ≡ Runs.traceOf calls ++ (now ∷ []) = rw same (p .upto) in
-      let formed : all wellFormed (Runs.traceOf calls ++ (now ∷ [])) ≡ true = rw (← upto) (all-take wellFormed (suc i) (traceOf ms) good) in
-      let there = Plain.listed-behind tm ok calls now formed in
-      let count : length (Runs.traceOf calls) ≡ i = ap length same ∙ p .count in
-      rw (run-held (bookOf tm) (freshAt n) calls) (Plain.listed-prefix tm (traceOf ms) _ i _ upto
-      (subst (λ k. Listed tm (Runs.traceOf calls ++ (now ∷ [])) (suc k) (rows (bookOf tm) (Runs.heldAfter tm calls) now)) count there))
+      let upto : take (suc i) (traceOf ms) ≡ Runs.traceOf callsBefore ++ (eventNow ∷ []) = rw same (p .upto) in
+      let formed : all wellFormed (Runs.traceOf callsBefore ++ (eventNow ∷ [])) ≡ true = rw (← upto) (all-take wellFormed (suc i) (traceOf ms) good) in
+      let there = Plain.listed-behind tm ok callsBefore eventNow formed in
+      let count : length (Runs.traceOf callsBefore) ≡ i = ap length same ∙ p .count in
+      rw (run-held (bookOf tm) (freshAt n) callsBefore) (Plain.listed-prefix tm (traceOf ms) _ i _ upto
+      (subst (λ k. Listed tm (Runs.traceOf callsBefore ++ (eventNow ∷ [])) (suc k) (rows (bookOf tm) (Runs.heldAfter tm callsBefore) eventNow)) count there))
 
 -- the text is of the stated form: by `accepted` just the texts that `read` accepts, and by `unique` with one d and one r (both in
 -- crate book, proofs/Bench.antt)
@@ -66,7 +66,7 @@ listed text d r f cs bytes i m at =
     let rd = read text d r f in
     let ms = runOf (reading text .book) cs in
     let p = accepted-at (reading text .book) tm rd 0 (omega arith) cs bytes i m at in
-    let s = met tm 0 ms i m p in
+    let s = metState tm 0 ms i m p in
     let number : s .number ≡ i = met-number tm 0 ms i m p ∙ omega arith in
     let w = p .done .written (p .accepted) in
     record {

@@ -15,7 +15,7 @@ use Rattle.laws.specs.Order.{ascending}
 use Rattle.laws.specs.Parts.{splice}
 use Rattle.laws.proofs.Lists.{all-at, all-of}
 use Rattle.runs.specs.Runs.{Within}
-use Rattle.runs.proofs.Runs.{behind-more, within-one}
+use Rattle.runs.proofs.Runs.{trace-more, within-one}
 use Rattle.pattern.specs.Regex.{In}
 use Rattle.meaning.specs.Events.{Event, Valuation, isValuation, holds, concerns}
 use Rattle.meaning.specs.Meaning.{Tracematch, noSymbol, noEvent, Reading, nothing, next, Row}
@@ -142,7 +142,7 @@ delivered-words tm t n m = (
 -- what the labels hold after the events of a trace, one after the other from nothing
 pub after-words : (tm : Tracematch) (t : List Event) (e : Event)
     → (heldAfter tm [] ≡ []) × (heldAfter tm (t ++ (e ∷ [])) ≡ newHeld (bookOf tm) (heldAfter tm t) e)
-after-words tm t e = (refl, behind-more (newHeld (bookOf tm)) [] t (e ∷ []))
+after-words tm t e = (refl, trace-more (newHeld (bookOf tm)) [] t (e ∷ []))
 
 module _ (tm : Tracematch) (t : List Event) (l : Lent) where
   -- a record in form, and events left to accept

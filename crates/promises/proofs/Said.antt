@@ -8,7 +8,7 @@ use Prim.Native.Nat.{ℕ, suc, _+_, _*_, _/_, _%_, _≤_, _<_}
 use lib.ListN.{length, getD, take, replicate}
 use Rattle.meaning.specs.Events.{Event, Valuation}
 use Rattle.meaning.specs.Meaning.{Tracematch}
-use Rattle.runs.specs.Runs.{noResult, result, Within}
+use Rattle.runs.specs.Runs.{noResult, nextResult, Within}
 use Rattle.meaning.specs.Runs.{Listed, Ordered}
 use Rattle.form.specs.Text.{Bytes}
 use Rattle.book.specs.declared.Book.{Book}
@@ -39,11 +39,11 @@ pub series-said : (b : Book) (s : State) (m : Made) (ms : List Made)
     → Series b s []
     × (Series b s (m ∷ ms)
     ↔ (EventGives b s (m .lent .bytes) (m .lent .buffer) (m .lent .place) (m .lent .tally) (m .taken) (m .buffer) × Series b (m .taken .state) ms))
-series-said b s m ms = (noResult, (parts, λ (g, r). result g r))
+series-said b s m ms = (noResult, (parts, λ (g, r). nextResult g r))
   where
     parts : Series b s (m ∷ ms)
         → EventGives b s (m .lent .bytes) (m .lent .buffer) (m .lent .place) (m .lent .tally) (m .taken) (m .buffer) × Series b (m .taken .state) ms
-    parts (result g r) = (g, r)
+    parts (nextResult g r) = (g, r)
 
 pub trace-in-said : (ms : List Made) → traceIn ms ≡ map eventOfBytes (recordsOf ms)
 trace-in-said ms = refl

@@ -69,16 +69,16 @@ module _ {A : Type 0} (f : A → Bool) where
       go true e v = within-more y v
       go false e v = v
 
-module _ {S C R : Type 0} (m : Machine S C R) (accepts : R → Bool) (event : C → Bool) (tells : (s : S) (c : C) → accepts (m .gives s c) ≡ event c) where
+module _ {S C R : Type 0} (m : Machine S C R) (takes : R → Bool) (told : C → Bool) (tells : (s : S) (c : C) → takes (m .gives s c) ≡ told c) where
   -- a call tells by itself whether it is accepted: as much is accepted of the results as of the calls
-  pub as-many : (s : S) (cs : List C) → length (keep accepts (resultsFrom m s cs)) ≡ length (keep event cs)
+  pub as-many : (s : S) (cs : List C) → length (keep takes (resultsFrom m s cs)) ≡ length (keep told cs)
   as-many s [] = refl
-  as-many s (c ∷ cs) = rw (tells s c) (go (event c) (as-many (m .leaves (m .gives s c)) cs))
+  as-many s (c ∷ cs) = rw (tells s c) (go (told c) (as-many (m .leaves (m .gives s c)) cs))
     where
       rest : List R
-      rest = keep accepts (resultsFrom m (m .leaves (m .gives s c)) cs)
+      rest = keep takes (resultsFrom m (m .leaves (m .gives s c)) cs)
 
-      go : (b : Bool) → length rest ≡ length (keep event cs)
-          → length (cond b (m .gives s c ∷ rest) rest) ≡ length (cond b (c ∷ keep event cs) (keep event cs))
+      go : (b : Bool) → length rest ≡ length (keep told cs)
+          → length (cond b (m .gives s c ∷ rest) rest) ≡ length (cond b (c ∷ keep told cs) (keep told cs))
       go true h = ap suc h
       go false h = h

@@ -9,12 +9,12 @@ use native.Mathlib.Omega.{arith}
 use lib.ListN.{length, take, getD, length-map}
 use Rattle.laws.specs.Lists.{all}
 use Rattle.laws.proofs.Lists.{mem-getD, mem-index}
-use Rattle.runs.specs.Runs.{Machine, resultsFrom, stateFrom, Along, ended, called, Chain, noResult, result, behindTrace, Within}
+use Rattle.runs.specs.Runs.{Machine, resultsFrom, stateFrom, Along, noCall, nextCall, Chain, noResult, nextResult, behindTrace, Within}
 
 -- the state behind one trace and then another
-pub behind-more : {S E : Type 0} (step : S → E → S) (s : S) (t u : List E) → behindTrace step s (t ++ u) ≡ behindTrace step (behindTrace step s t) u
-behind-more step s [] u = refl
-behind-more step s (e ∷ t) u = behind-more step (step s e) t u
+pub trace-more : {S E : Type 0} (step : S → E → S) (s : S) (t u : List E) → behindTrace step s (t ++ u) ≡ behindTrace step (behindTrace step s t) u
+trace-more step s [] u = refl
+trace-more step s (e ∷ t) u = trace-more step (step s e) t u
 
 -- elements of a list and of its rest
 pub within-head : {A : Type 0} {x y : A} {l : List A} → Within (x ∷ l) 0 y → y ≡ x
@@ -89,14 +89,14 @@ module _ {S C R : Type 0} (m : Machine S C R) where
 
   -- what is true of each call by itself is true along the calls
   pub along-each : {P : S → C → Type 0} (s : S) (cs : List C) → ((t : S) (c : C) → List·Memᴰ c cs → P t c) → Along m P s cs
-  along-each s [] h = ended
-  along-each s (c ∷ cs) h = called (h s c (List·Memᴰ·head refl)) (along-each (m .leaves (m .gives s c)) cs (λ t d n. h t d (List·Memᴰ·tail n)))
+  along-each s [] h = noCall
+  along-each s (c ∷ cs) h = nextCall (h s c (List·Memᴰ·head refl)) (along-each (m .leaves (m .gives s c)) cs (λ t d n. h t d (List·Memᴰ·tail n)))
 
   -- what every call keeps holds behind them
   pub kept-along : (I : S → Type 0) {P : S → C → Type 0} → ((s : S) → I s → (c : C) → P s c → I (m .leaves (m .gives s c)))
       → {s : S} {cs : List C} → I s → Along m P s cs → I (stateFrom m s cs)
-  kept-along I keeps i ended = i
-  kept-along I keeps {s} i (called {c = c} p a) = kept-along I keeps (keeps s i c p) a
+  kept-along I keeps i noCall = i
+  kept-along I keeps {s} i (nextCall {c = c} p a) = kept-along I keeps (keeps s i c p) a
 
 -- One machine follows another: the results of the first are calls of the second, and every call keeps the states alike.
 pub followed : {S C R T D Q : Type 0} (m : Machine S C R) (k : Machine T D Q) (to : R → D) (Like : S → T → Type 0) {P : C → Type 0}
@@ -112,16 +112,16 @@ module _ {S C R : Type 0} (m : Machine S C R) (P : S → R → Type 0) where
   pub chain-run : (to : R → C) → ((s : S) (r : R) → P s r → r ≡ m .gives s (to r)) → (s : S) (rs : List R) → Chain P (m .leaves) s rs
       → rs ≡ resultsFrom m s (map to rs)
   chain-run to one s [] noResult = refl
-  chain-run to one s (r ∷ rs) (result p c) =
+  chain-run to one s (r ∷ rs) (nextResult p c) =
       let e = one s r p in
       ap₂ _∷_ e (chain-run to one (m .leaves r) rs c ∙ ap (λ q. resultsFrom m (m .leaves q) (map to rs)) e)
 
   pub run-chain : (s : S) (cs : List C) → ((t : S) (c : C) → List·Memᴰ c cs → P t (m .gives t c)) → Chain P (m .leaves) s (resultsFrom m s cs)
   run-chain s [] each = noResult
-  run-chain s (c ∷ cs) each = result (each s c (List·Memᴰ·head refl)) (run-chain (m .leaves (m .gives s c)) cs (λ t d n. each t d (List·Memᴰ·tail n)))
+  run-chain s (c ∷ cs) each = nextResult (each s c (List·Memᴰ·head refl)) (run-chain (m .leaves (m .gives s c)) cs (λ t d n. each t d (List·Memᴰ·tail n)))
 
 -- what each tells is true of all
 pub chain-all : {S R : Type 0} {P : S → R → Type 0} {leaves : R → S} (f : R → Bool) → ((s : S) (r : R) → P s r → f r ≡ true)
     → {s : S} {rs : List R} → Chain P leaves s rs → all f rs ≡ true
 chain-all f each noResult = refl
-chain-all f each {s} (result {r = r} p c) = ap₂ _&&_ (each s r p) (chain-all f each c)
+chain-all f each {s} (nextResult {r = r} p c) = ap₂ _&&_ (each s r p) (chain-all f each c)

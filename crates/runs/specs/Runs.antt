@@ -25,13 +25,13 @@ module _ {S C R : Type 0} (machine : Machine S C R) where
 
   -- of each call, in the state that it gets, P is true
   pub data Along (P : S → C → Type 0) : S → List C → Type 0 where
-    ended : {s : S} → Along P s []
-    called : {s : S} {c : C} {cs : List C} → P s c → Along P (machine .leaves (machine .gives s c)) cs → Along P s (c ∷ cs)
+    noCall : {s : S} → Along P s []
+    nextCall : {s : S} {c : C} {cs : List C} → P s c → Along P (machine .leaves (machine .gives s c)) cs → Along P s (c ∷ cs)
 
 -- results one behind the other, where no machine is known: of each, in the state that it met, P is true
 pub data Chain {S R : Type 0} (P : S → R → Type 0) (leaves : R → S) : S → List R → Type 0 where
   noResult : {s : S} → Chain P leaves s []
-  result : {s : S} {r : R} {rs : List R} → P s r → Chain P leaves (leaves r) rs → Chain P leaves s (r ∷ rs)
+  nextResult : {s : S} {r : R} {rs : List R} → P s r → Chain P leaves (leaves r) rs → Chain P leaves s (r ∷ rs)
 
 -- "the accepted ones in order are the run's trace": the events of what is accepted, be it calls or results
 abbrev pub traceBy : {R E : Type 0} → (accepts : R → Bool) (event : R → E) → List R → List E
