@@ -21,7 +21,7 @@ use Rattle.meaning.specs.Labels.{Held, compareDisjuncts, newHeld}
 use Rattle.meaning.specs.Room.{room}
 use Rattle.meaning.specs.Sound.{soundHeld}
 use Rattle.table.specs.Tables.{viewSymbol}
-use Rattle.bounded.specs.Wide.{wideBook}
+use Rattle.meaning.specs.Wide.{wideBook}
 use Rattle.bounded.specs.Bounded.{pick, labelled, appended}
 use Rattle.bounded.proofs.Picks.{label-pick}
 use Rattle.bounded.proofs.Labels.{labelAt, advanced, advanced-full, advanced-all, labelled-at, label-ascending}
@@ -31,7 +31,7 @@ use Rattle.packed.specs.Sets.{disjunctsIn}
 use Rattle.book.specs.declared.Book.{Book}
 use Rattle.book.specs.Books.{viewBook}
 use Rattle.packed.specs.Held.{heldIn, heldGrown}
-use Rattle.labels.proofs.Held.{held-grown, held-full}
+use Rattle.packed.proofs.Held.{held-grown, held-full}
 
 -- two maps that agree, element by element
 same-at : {A B C : Type 0} (f : A → C) (g : B → C) (k : List A) (l : List B) → map f k ≡ map g l

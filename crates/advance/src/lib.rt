@@ -16,7 +16,7 @@ ghost use Rattle.meaning.specs.Book.{soundBook, followers};
 ghost use Rattle.meaning.specs.Labels.{newHeld};
 ghost use Rattle.meaning.specs.Room.{heldLimit, room};
 ghost use Rattle.meaning.specs.Sound.{soundHeld};
-ghost use Rattle.bounded.specs.Wide.{wideBook};
+ghost use Rattle.meaning.specs.Wide.{wideBook};
 ghost use Rattle.demand.specs.Constraints.{viewConstraint, noConstraint, Ready};
 ghost use Rattle.book.specs.Books.{viewBook};
 ghost use Rattle.book.specs.Counts.{Counts};

@@ -17,12 +17,12 @@ use Rattle.laws.proofs.Sets.{keep-ascending}
 use Rattle.laws.proofs.Maps.{ascending-map}
 use Rattle.meaning.specs.Events.{Event, constraintOf}
 use Rattle.meaning.specs.Book.{Book, positions, beginsAt, followers, goesOn, symbolOf}
-use Rattle.meaning.specs.Labels.{Disjunct, Held, heldAt, labelOf, compareDisjuncts, compareHeld, stepSet, skipSet, newLabel, newHeld}
+use Rattle.meaning.specs.Labels.{Disjunct, Held, heldAt, labelOf, compareDisjuncts, compareHeld, stepSet, skipSet, newLabel, newHeld, heldOf}
 use Rattle.meaning.specs.Room.{heldLimit, skipRoom, room}
 use Rattle.meaning.specs.Sound.{soundPiece, soundHeld}
 use Rattle.automaton.proofs.Orders.{held-order}
-use Rattle.bounded.specs.Wide.{wideBook}
-use Rattle.bounded.specs.Bounded.{heldOf, labelled, appended}
+use Rattle.meaning.specs.Wide.{wideBook}
+use Rattle.bounded.specs.Bounded.{labelled, appended}
 use Rattle.bounded.proofs.Picks.{label-pick, step-met}
 
 -- a label over the limit is over it behind other labels too

@@ -14,9 +14,9 @@ use Rattle.laws.specs.Lists.{keep}
 use Rattle.laws.proofs.Lists.{eqb-swap}
 use Rattle.meaning.specs.Events.{Event, constraintOf}
 use Rattle.meaning.specs.Book.{Book, beginsAt, followers, symbolOf}
-use Rattle.meaning.specs.Labels.{Disjunct, Held, heldAt, labelOf, sources, stepSet}
-use Rattle.bounded.specs.Wide.{wideBook}
-use Rattle.bounded.specs.Bounded.{pick, heldOf, withStart, metList, metSet}
+use Rattle.meaning.specs.Labels.{Disjunct, Held, heldAt, labelOf, sources, stepSet, heldOf}
+use Rattle.meaning.specs.Wide.{wideBook}
+use Rattle.bounded.specs.Bounded.{pick, withStart, metList, metSet}
 
 module _ {A B : Type 0} where
   -- a picked element stands in the list
@@ -56,18 +56,6 @@ pick-next f z i k [] d h = absurd (omega arith)
 pick-next f z i [] (y ∷ l) d h = rw (drop-nil i, z)
 pick-next f z zero (x ∷ k) (y ∷ l) d h = refl
 pick-next f z (suc i) (x ∷ k) (y ∷ l) d h = pick-next f z i k l d (omega arith)
-
--- as much is held as there are positions, and disjuncts
-pub held-of-length : (ps : List ℕ) (l : List Disjunct) → length ps ≡ length l → length (heldOf ps l) ≡ length l
-held-of-length [] [] h = refl
-held-of-length [] (D ∷ l) h = h
-held-of-length (p ∷ ps) [] h = refl
-held-of-length (p ∷ ps) (D ∷ l) h = ap suc (held-of-length ps l (omega arith))
-
-pub held-positions : (ps : List ℕ) (l : List Disjunct) → length ps ≤ length l → map (λ h. h .position) (heldOf ps l) ≡ ps
-held-positions [] l h = refl
-held-positions (p ∷ ps) [] h = absurd (omega arith)
-held-positions (p ∷ ps) (D ∷ l) h = ap (λ r. p ∷ r) (held-positions ps l (omega arith))
 
 -- the disjuncts of what is held
 abbrev disjuncts : List Held → List Disjunct

@@ -18,11 +18,11 @@ use Rattle.laws.proofs.Maps.{gather-agree}
 use Rattle.laws.proofs.Sets.{insert-ascending, mem-setOf, setOf-ascending, same-members, growAll-within}
 use Rattle.meaning.specs.Events.{Event, Constraint, never, Valuation, constraintOf}
 use Rattle.meaning.specs.Book.{Book, positions, beginsAt, endsAt, followers, symbolOf}
-use Rattle.meaning.specs.Labels.{Disjunct, isFree, compareDisjuncts, meets, met}
-use Rattle.meaning.specs.Rows.{compareValuations, valuationOf, rows}
+use Rattle.meaning.specs.Labels.{Disjunct, isFree, compareDisjuncts, meets, met, heldOf}
+use Rattle.meaning.specs.Rows.{rowLimit, compareValuations, valuationOf, rows}
 use Rattle.automaton.proofs.Orders.{disjunct-order, valuation-order}
-use Rattle.bounded.specs.Wide.{wideBook}
-use Rattle.bounded.specs.Bounded.{pick, heldOf, withStart, metList, metSet, rowLimit, rowsWith, freeIn, freeRows}
+use Rattle.meaning.specs.Wide.{wideBook}
+use Rattle.bounded.specs.Bounded.{pick, withStart, metList, metSet, rowsWith, freeIn, freeRows}
 use Rattle.bounded.proofs.Picks.{sources-pick, step-met}
 
 module _ {A : Type 0} (cmp : A → A → Ordering) (cap : ℕ) where

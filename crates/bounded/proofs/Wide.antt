@@ -26,7 +26,7 @@ use Rattle.automaton.proofs.Orders.{disjunct-order, held-order, valuation-order
 use Rattle.automaton.proofs.Step.{Long, skipOne-long, skipBy-long, numbered-inRange, symbols-inRange}
 use Rattle.automaton.proofs.Step.{label-long, sources-long, stepSet-long, skipSet-long}
 use Rattle.automaton.proofs.Fits.{inRange, met-length}
-use Rattle.bounded.specs.Wide.{wide, wideHeld, wideValuation, wideBook}
+use Rattle.meaning.specs.Wide.{wide, wideHeld, wideValuation, wideBook}
 use Rattle.bounded.specs.Bounded.{metList, freeIn, freeRows}
 use Rattle.bounded.proofs.WideDisjuncts.{wide-length, wide-take, wide-compare, wideValuation-compare, wide-few, wide-entries, wide-free-disjunct}
 use Rattle.bounded.proofs.WideDisjuncts.{wide-valuation, wide-meets, wide-met, wide-skip}

@@ -23,7 +23,7 @@ use Rattle.meaning.specs.Room.{exclusionLimit, fewExclusions}
 use Rattle.meaning.specs.Rows.{valueOf, valuationOf, compareValuations}
 use Rattle.meaning.specs.Sound.{soundEntry}
 use Rattle.automaton.proofs.Fits.{inRange}
-use Rattle.bounded.specs.Wide.{wide, wideValuation}
+use Rattle.meaning.specs.Wide.{wide, wideValuation}
 
 pub wide-length : (D : Disjunct) → length D ≤ 4 → length (wide D) ≡ 4
 unfolding wide

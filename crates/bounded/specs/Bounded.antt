@@ -2,7 +2,7 @@
 -- disjuncts, the same number of each. A set that may hold only so many elements is `full` once it would hold more.
 use mathlib.Core.Bool.{Bool, cond, _&&_}
 use mathlib.Core.List.{List, [], _∷_, _++_, map}
-use Prim.Native.Nat.{ℕ, _+_, _*_}
+use Prim.Native.Nat.{ℕ}
 use lib.Dec.{eqb, leb}
 use lib.ListN.{length, take}
 use Rattle.laws.specs.Bits.{bit}
@@ -12,20 +12,14 @@ use Rattle.meaning.specs.Events.{Event, Constraint, Valuation, constraintOf}
 use Rattle.meaning.specs.Book.{Book, positions, endsAt, symbolOf}
 use Rattle.meaning.specs.Labels.{Disjunct, Held, sources, heldAt, freeDisjunct, isFree, compareDisjuncts, meets, met, skipBy, skipThrough}
 use Rattle.meaning.specs.Room.{heldLimit, fewExclusions, setRoom, skipRoom}
-use Rattle.meaning.specs.Rows.{compareValuations, valuationOf}
-use Rattle.meaning.specs.Limits.{variableLimit, symbolLimit}
+use Rattle.meaning.specs.Rows.{rowLimit, compareValuations, valuationOf}
+use Rattle.meaning.specs.Limits.{variableLimit}
 
 -- the elements of the second list whose partner in the first passes
 abbrev pub pick : {A B : Type 0} → (A → Bool) → List A → List B → List B
 pick f [] l = []
 pick f (x ∷ k) [] = []
 pick f (x ∷ k) (y ∷ l) = let r = pick f k l in cond (f x) (y ∷ r) r
-
--- positions and disjuncts as what is held
-abbrev pub heldOf : List ℕ → List Disjunct → List Held
-heldOf [] l = []
-heldOf (p ∷ ps) [] = []
-heldOf (p ∷ ps) (D ∷ l) = heldAt p D ∷ heldOf ps l
 
 -- the start's label, if the position begins, before the others
 unfoldable pub withStart : Bool → List Disjunct → List Disjunct
@@ -64,10 +58,6 @@ labelled c cs begins goesOn q ps ms l =
 abbrev pub appended : ℕ → List Held → Grown Disjunct → Grown Held
 appended q h full = full
 appended q h (grown l) = within heldLimit (h ++ map (heldAt q) l)
-
--- "an event has at most 16 × 129 rows"
-abbrev pub rowLimit : ℕ
-rowLimit = symbolLimit * (heldLimit + 1)
 
 -- the rows of one ending position put among those before
 unfoldable pub rowsWith : Constraint → List Disjunct → Grown Valuation → Grown Valuation

@@ -17,9 +17,9 @@ use Rattle.meaning.specs.Events as Events
 use Rattle.meaning.specs.Meaning.{noSymbol}
 use Rattle.meaning.specs.Book.{soundBook, followers, symbolOf}
 use Rattle.meaning.specs.Labels.{Disjunct}
-use Rattle.meaning.specs.Rows.{rows}
-use Rattle.bounded.specs.Wide.{wideBook}
-use Rattle.bounded.specs.Bounded.{pick, withStart, rowLimit, rowsWith, freeIn, freeRows}
+use Rattle.meaning.specs.Rows.{rowLimit, rows}
+use Rattle.meaning.specs.Wide.{wideBook}
+use Rattle.bounded.specs.Bounded.{pick, withStart, rowsWith, freeIn, freeRows}
 use Rattle.bounded.proofs.RowSets.{ending, rowsFrom, from-full, from-none, from-next, collected-rows, freeFrom, free-end, free-next, free-all}
 use Rattle.demand.specs.declared.Constraint.{Constraint}
 use Rattle.demand.specs.Constraints.{viewConstraint, noConstraint}

@@ -15,8 +15,8 @@ use Rattle.laws.proofs.Bits.{bit-zero}
 use Rattle.laws.proofs.Lists.{taken-none}
 use Rattle.meaning.specs.Events.{Constraint, Valuation}
 use Rattle.meaning.specs.Labels.{Disjunct, freeDisjunct}
-use Rattle.meaning.specs.Rows.{compareValuations}
-use Rattle.bounded.specs.Bounded.{pick, withStart, rowLimit, rowsWith, freeIn}
+use Rattle.meaning.specs.Rows.{rowLimit, compareValuations}
+use Rattle.bounded.specs.Bounded.{pick, withStart, rowsWith, freeIn}
 use Rattle.bounded.proofs.Picks.{pick-next}
 use Rattle.bounded.proofs.RowSets.{rows-append, rows-full, rows-ascending, free-append}
 use Rattle.rows.specs.Valuations.{valuationsIn, rowsGrown}

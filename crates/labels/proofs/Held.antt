@@ -1,6 +1,5 @@
--- What is held in lent words: how many there are, what a count with the words says, and one label written behind the others.
--- For `append_label`, `add_label` and `advance`, and for the crates above.
-use mathlib.Core.Path.{_≡_, refl, sym, ap, ap₂, _∙_}
+-- One label written behind the others that are held in lent words, with room for it and without. For `append_label` and `add_label`.
+use mathlib.Core.Path.{_≡_, sym, ap, ap₂, _∙_}
 use mathlib.Core.Bool.{Bool, true, false, cond}
 use mathlib.Core.List.{List, [], _∷_, _++_, map, append-assoc, append-nil}
 use Prim.Native.Nat.{ℕ, suc, _+_, _≤_, _<_}
@@ -11,51 +10,14 @@ use lib.ListN.{length, take, set, replicate, length-map, length-append, replicat
 use lib.Seq.{length-take-le, take-suc-set}
 use borrow.Author.Tests.{le-leb, lt-leb}
 use Rattle.laws.specs.Sets.{Grown, full, grown}
-use Rattle.laws.proofs.Turns.{counted-few, counted-over, few-counted, over-counted}
-use Rattle.meaning.specs.Labels.{Disjunct, Held, heldAt}
+use Rattle.meaning.specs.Labels.{Disjunct, Held, heldAt, heldOf}
 use Rattle.meaning.specs.Room.{heldLimit}
-use Rattle.bounded.specs.Bounded.{heldOf, appended}
-use Rattle.bounded.proofs.Picks.{held-of-length}
+use Rattle.automaton.proofs.Held.{held-of-append, held-of-one}
+use Rattle.bounded.specs.Bounded.{appended}
 use Rattle.packed.specs.Sets.{disjunctsIn, grownIn}
-use Rattle.packed.proofs.Sets.{in-length, in-grown, in-full}
 use Rattle.packed.specs.Held.{heldIn, heldGrown}
-
-held-of-append : (ps qs : List ℕ) (k l : List Disjunct) → length ps ≡ length k → heldOf (ps ++ qs) (k ++ l) ≡ heldOf ps k ++ heldOf qs l
-held-of-append [] qs [] l h = refl
-held-of-append [] qs (D ∷ k) l h = absurd (omega arith)
-held-of-append (p ∷ ps) qs [] l h = absurd (omega arith)
-held-of-append (p ∷ ps) qs (D ∷ k) l h = ap (λ r. heldAt p D ∷ r) (held-of-append ps qs k l (omega arith))
-
--- the disjuncts of one label
-held-of-one : (p : ℕ) (l : List Disjunct) → heldOf (replicate (length l) p) l ≡ map (heldAt p) l
-held-of-one p [] = refl
-held-of-one p (D ∷ l) = ap (λ r. heldAt p D ∷ r) (held-of-one p l)
-
-taken-length : (w : List ℕ) (n : ℕ) → n ≤ 128 → length (take n (disjunctsIn w)) ≡ n
-taken-length w n h = length-take-le n (disjunctsIn w) (omega (arith, in-length w))
-
-module _ (n : ℕ) (at w : List ℕ) where
-  pub held-length : n ≤ 128 → length at ≡ 128 → length (heldIn n at w) ≡ n
-  unfolding heldIn
-  held-length h k =
-      let a = taken-length w n h in
-      held-of-length (take n at) (take n (disjunctsIn w)) (length-take-le n at (omega arith) ∙ sym a) ∙ a
-
-  pub grown-held : (h : List Held) → heldGrown n at w ≡ grown h → (n ≤ 128) × (heldIn n at w ≡ h)
-  unfolding heldGrown
-  grown-held h e = few-counted 128 n (heldIn n at w) h e
-
-  pub full-held : heldGrown n at w ≡ full → 128 < n
-  unfolding heldGrown
-  full-held e = over-counted 128 n (heldIn n at w) e
-
-  pub held-grown : n ≤ 128 → heldGrown n at w ≡ grown (heldIn n at w)
-  unfolding heldGrown
-  held-grown h = counted-few 128 n (heldIn n at w) h
-
-  pub held-full : 128 < n → heldGrown n at w ≡ full
-  unfolding heldGrown
-  held-full h = counted-over 128 n (heldIn n at w) h
+use Rattle.packed.proofs.Sets.{in-grown, in-full}
+use Rattle.packed.proofs.Held.{taken-length, held-length, held-grown, held-full}
 
 -- the first n positions, then i times p: none of them written yet, and one more written
 pub positions-none : (at : List ℕ) (n p : ℕ) → take (n + 0) at ≡ take n at ++ replicate 0 p

@@ -74,6 +74,11 @@ module _ {A : Type 0} where
   unfolding pad
   pad-full n d l h = let z : n - length l ≡ 0 = omega arith in rw z (append-nil l)
 
+  -- what has n elements once it is padded had no more before
+  pub pad-few : (n : ℕ) (d : A) (l : List A) → length (pad n d l) ≡ n → length l ≤ n
+  unfolding pad
+  pad-few n d l h = omega (arith, h, length-append l (replicate (n - length l) d))
+
   -- an element put behind those that are there takes the place of a filler
   pub pad-more : (n : ℕ) (d : A) (l : List A) (x : A) → length l < n → set (pad n d l) (length l) x ≡ pad n d (l ++ x ∷ [])
   unfolding pad

@@ -111,6 +111,12 @@ pub record Held : Type 0 where
 abbrev pub heldAt : ℕ → Disjunct → Held
 heldAt p D = record { position = p; disjunct = D }
 
+-- positions and disjuncts as what is held
+abbrev pub heldOf : List ℕ → List Disjunct → List Held
+heldOf [] l = []
+heldOf (p ∷ ps) [] = []
+heldOf (p ∷ ps) (D ∷ l) = heldAt p D ∷ heldOf ps l
+
 -- "Held disjuncts stand by position, then by values …, then by exclusion lists"
 abbrev pub compareHeld : Held → Held → Ordering
 compareHeld g h = andThen (compare (g .position) (h .position)) (compareDisjuncts (g .disjunct) (h .disjunct))

@@ -14,7 +14,7 @@ ghost use lib.ListN.{length, take};
 ghost use Rattle.laws.specs.Lists.{gather};
 ghost use Rattle.laws.specs.Parts.{splice};
 ghost use Rattle.meaning.specs.Limits.{variableLimit};
-ghost use Rattle.bounded.specs.Bounded.{rowLimit};
+ghost use Rattle.meaning.specs.Rows.{rowLimit};
 ghost use Rattle.rows.specs.Valuations.{valuationsIn};
 ghost use Rattle.row.specs.RowBytes.{rowSize, rowBytes};
 ghost use Rattle.tally.specs.Tallies.{tallied};

@@ -5,9 +5,8 @@ use Prim.Native.Nat.{ℕ}
 use lib.Dec.{leb}
 use lib.ListN.{take}
 use Rattle.laws.specs.Sets.{Grown, full, grown}
-use Rattle.meaning.specs.Labels.{Held}
+use Rattle.meaning.specs.Labels.{Held, heldOf}
 use Rattle.meaning.specs.Room.{heldLimit}
-use Rattle.bounded.specs.Bounded.{heldOf}
 use Rattle.packed.specs.Sets.{disjunctsIn}
 
 -- the first n positions and disjuncts

@@ -16,7 +16,7 @@ use Rattle.laws.proofs.Lists.{mem-index}
 use Rattle.laws.proofs.Arrays.{length-of, getD-of}
 use Rattle.laws.proofs.Turns.{counted, counted-few, counted-over, few-counted, over-counted}
 use Rattle.meaning.specs.Events.{Valuation, word32}
-use Rattle.bounded.specs.Bounded.{rowLimit}
+use Rattle.meaning.specs.Rows.{rowLimit}
 use Rattle.rows.specs.Valuations.{valuationsIn, rowsGrown}
 
 -- the four words of the i-th valuation

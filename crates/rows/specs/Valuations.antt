@@ -8,7 +8,7 @@ use Rattle.laws.specs.Lists.{numbers}
 use Rattle.laws.specs.Sets.{Grown, full, grown}
 use Rattle.meaning.specs.Events.{Valuation}
 use Rattle.meaning.specs.Limits.{variableLimit}
-use Rattle.bounded.specs.Bounded.{rowLimit}
+use Rattle.meaning.specs.Rows.{rowLimit}
 
 unfoldable pub valuationsIn : List ℕ → List Valuation
 valuationsIn w = map (λ i. map (λ v. getD w (i * variableLimit + v) 0) (numbers 0 variableLimit)) (numbers 0 rowLimit)

@@ -9,9 +9,8 @@ ghost use Prim.Native.Nat.{suc, _+_, _≤_, _<_};
 ghost use lib.ListN.{length, take, drop, getD, set};
 ghost use Rattle.laws.specs.Order.{ascending};
 ghost use Rattle.laws.specs.Sets.{insert, within};
-ghost use Rattle.meaning.specs.Rows.{compareValuations};
+ghost use Rattle.meaning.specs.Rows.{rowLimit, compareValuations};
 ghost use Rattle.meaning.specs.Limits.{variableLimit};
-ghost use Rattle.bounded.specs.Bounded.{rowLimit};
 ghost use Rattle.slot.specs.Slots.{rank};
 ghost use Rattle.rows.specs.Valuations.{valuationsIn, rowsGrown};
 

@@ -11,12 +11,11 @@ use lib.ListN.{length, take, getD, length-map, length-take, List·getD-map}
 use lib.Seq.{length-take-le, getD-take}
 use Rattle.laws.specs.Order.{isLess}
 use Rattle.laws.proofs.Order.{compare-order, compare-lt, lt-compare, gt-compare}
-use Rattle.meaning.specs.Labels.{Held, heldAt, compareHeld, compareDisjuncts}
+use Rattle.meaning.specs.Labels.{Held, heldAt, compareHeld, compareDisjuncts, heldOf}
 use Rattle.meaning.specs.Labels as Labels
-use Rattle.bounded.specs.Wide.{wide}
-use Rattle.bounded.specs.Bounded.{heldOf}
+use Rattle.meaning.specs.Wide.{wide}
+use Rattle.automaton.proofs.Held.{held-of-length}
 use Rattle.bounded.proofs.WideDisjuncts.{wide-compare}
-use Rattle.bounded.proofs.Picks.{held-of-length}
 use Rattle.slot.specs.Slots.{rank}
 use Rattle.disjunct.specs.declared.Disjunct.{Disjunct}
 use Rattle.disjunct.specs.Disjuncts.{viewDisjunct, disjunctOf}

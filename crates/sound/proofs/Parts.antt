@@ -19,10 +19,9 @@ use Rattle.laws.proofs.Lists.{and-swap, and-front, all-map, all-take, all-agree
 use Rattle.laws.proofs.Maps.{take-map}
 use Rattle.meaning.specs.Events.{word32}
 use Rattle.meaning.specs.Book.{soundParameter, soundSymbol, soundMask, soundBook}
-use Rattle.meaning.specs.Labels.{compareHeld}
+use Rattle.meaning.specs.Labels.{compareHeld, heldOf}
 use Rattle.meaning.specs.Labels as Labels
 use Rattle.meaning.specs.Sound.{soundEntry, soundDisjunct, soundPiece, soundHeld, soundState}
-use Rattle.bounded.specs.Bounded.{heldOf}
 use Rattle.table.specs.declared.Parameter.{Parameter}
 use Rattle.table.specs.declared.Symbol.{Symbol}
 use Rattle.table.specs.Tables.{viewParameter, viewSymbol}

@@ -11,10 +11,9 @@ use Rattle.laws.specs.Parts.{pad}
 use Rattle.laws.proofs.Maps.{take-map}
 use Rattle.laws.proofs.Parts.{pad-next}
 use Rattle.meaning.specs.Labels as Labels
-use Rattle.meaning.specs.Labels.{freeDisjunct, heldAt}
-use Rattle.bounded.specs.Wide.{wide, wideHeld}
-use Rattle.bounded.specs.Bounded.{heldOf}
-use Rattle.bounded.proofs.Picks.{held-of-length, held-positions}
+use Rattle.meaning.specs.Labels.{freeDisjunct, heldAt, heldOf}
+use Rattle.meaning.specs.Wide.{wide, wideHeld}
+use Rattle.automaton.proofs.Held.{held-of-length, held-positions}
 use Rattle.disjunct.specs.declared.Disjunct.{Disjunct}
 use Rattle.disjunct.specs.Disjuncts.{viewDisjunct, disjunctOf}
 use Rattle.disjunct.proofs.Disjuncts.{view-disjunct}

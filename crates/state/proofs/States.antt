@@ -1,7 +1,7 @@
 -- The state of the code against the plain one: a state that is coded and read again is as it was, and further free variables
 -- change nothing of the code's state. For the event call and the soundness of a state.
-use mathlib.Core.Path.{_≡_, refl, sym, ap, ap₂, _∙_}
-use mathlib.Core.List.{List, [], _∷_, map, map-map, List·Memᴰ}
+use mathlib.Core.Path.{_≡_, sym, ap, ap₂, _∙_}
+use mathlib.Core.List.{List, [], map, map-map, List·Memᴰ}
 use Prim.Native.Nat.{ℕ, _≤_}
 use native.Mathlib.Omega.{arith}
 use lib.ListN.{length, take, length-map}
@@ -9,9 +9,9 @@ use Rattle.laws.specs.Parts.{pad}
 use Rattle.laws.proofs.Maps.{map-agree}
 use Rattle.laws.proofs.Parts.{pad-length, pad-take, pad-full, map-pad}
 use Rattle.meaning.specs.Labels as Labels
-use Rattle.meaning.specs.Labels.{free, Held}
-use Rattle.bounded.specs.Wide.{wide, wideHeld}
-use Rattle.bounded.specs.Bounded.{heldOf}
+use Rattle.meaning.specs.Labels.{free, Held, heldOf}
+use Rattle.meaning.specs.Wide.{wide, wideHeld}
+use Rattle.automaton.proofs.Held.{held-of}
 use Rattle.slot.specs.Slots.{slotOf}
 use Rattle.disjunct.specs.declared.Disjunct.{Disjunct}
 use Rattle.disjunct.specs.Disjuncts.{viewDisjunct, disjunctOf}
@@ -23,11 +23,6 @@ module _ {A B : Type 0} where
   -- what is counted of a padded map
   taken : (n : ℕ) (d : B) (f : A → B) (l : List A) → take (length l) (pad n d (map f l)) ≡ map f l
   taken n d f l = ap (λ k. take k (pad n d (map f l))) (sym (length-map l f)) ∙ pad-take n d (map f l)
-
--- what is held by its positions and its disjuncts
-held-of : (held : List Held) → heldOf (map (λ h. h .position) held) (map (λ h. h .disjunct) held) ≡ held
-held-of [] = refl
-held-of (h ∷ held) = ap (λ l. h ∷ l) (held-of held)
 
 -- the first variables of a disjunct that has no more
 view-first : (n : ℕ) (D : Labels.Disjunct) → length D ≡ n → take n (viewDisjunct (disjunctOf D)) ≡ D

@@ -8,8 +8,7 @@ use native.Mathlib.Omega.{arith}
 use lib.ListN.{length, getD, take, replicate}
 use Rattle.laws.specs.Parts.{pad}
 use Rattle.meaning.specs.Labels as Labels
-use Rattle.meaning.specs.Labels.{bound, free}
-use Rattle.bounded.specs.Bounded.{heldOf}
+use Rattle.meaning.specs.Labels.{bound, free, heldOf}
 use Rattle.slot.specs.declared.Slot.{Slot}
 use Rattle.slot.specs.Slots.{viewSlot, slotOf}
 use Rattle.disjunct.specs.declared.Disjunct.{Disjunct}

@@ -5,7 +5,7 @@ use lib.ListN.{length, take}
 use Rattle.laws.specs.Parts.{pad}
 use Rattle.meaning.specs.Labels as Labels
 use Rattle.meaning.specs.Room.{heldLimit}
-use Rattle.bounded.specs.Bounded.{heldOf}
+use Rattle.meaning.specs.Labels.{heldOf}
 use Rattle.disjunct.specs.Disjuncts.{viewDisjunct, disjunctOf}
 use Rattle.state.specs.declared.State.{State}
 

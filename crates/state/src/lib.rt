@@ -7,7 +7,7 @@ ghost use Prim.Native.Nat.{_≤_, _<_};
 ghost use lib.ListN.{length, getD, set};
 ghost use Rattle.meaning.specs.Room.{heldLimit};
 ghost use Rattle.meaning.specs.Limits.{variableLimit};
-ghost use Rattle.bounded.specs.Wide.{wideHeld};
+ghost use Rattle.meaning.specs.Wide.{wideHeld};
 ghost use Rattle.packed.specs.Held.{heldIn};
 ghost use Rattle.state.specs.States.{stateOf, heldFirst};
 

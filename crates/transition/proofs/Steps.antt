@@ -2,41 +2,35 @@
 -- the follow masks, the constraints, the free rows, room, rows and the state after the event. For `moved`, `judged` and `step`.
 use mathlib.Core.Path.{_≡_, refl, sym, ap, ap₂, subst, _∙_}
 use mathlib.Core.Bool.{Bool, true, false, cond, _&&_, and-eq-true-iff}
-use mathlib.Core.List.{List, [], _∷_, map, map-map, List·Memᴰ, List·Memᴰ·head, List·Memᴰ·tail, List·Memᴰ·not-nil, List·Memᴰ·cases-cons}
-use mathlib.Core.Logic.{⊎-elim}
+use mathlib.Core.List.{List, map, map-map, List·Memᴰ}
 use Prim.Native.Nat.{ℕ, suc, _+_, _-_, _≤_, _<_}
 use native.Mathlib.Numerals.{add-one}
 use native.Mathlib.Omega.{arith}
 use borrow.Author.Tests.{leb-true, le-leb}
 use lib.Dec.{leb}
-use lib.ListN.{length, take, getD, replicate, length-map, length-take, length-append}
+use lib.ListN.{length, take, getD, length-map, length-take}
 use lib.Seq.{length-take-le, getD-take}
 use Rattle.laws.specs.Lists.{all}
-use Rattle.laws.specs.Parts.{pad}
 use Rattle.laws.specs.Sets.{full, grown, within}
-use Rattle.laws.proofs.Lists.{all-at, all-of, mem-map, mem-index}
-pub use Rattle.laws.proofs.Lists.{mem-take}
+use Rattle.laws.proofs.Lists.{all-at, all-of, mem-map}
 use Rattle.laws.proofs.Maps.{map-agree}
 use Rattle.meaning.specs.Events as Events
 use Rattle.meaning.specs.Book.{followers}
-use Rattle.meaning.specs.Labels.{free, Disjunct, Held, newHeld}
+use Rattle.meaning.specs.Labels.{Held, newHeld}
 use Rattle.meaning.specs.Room.{room}
-use Rattle.meaning.specs.Rows.{rows}
+use Rattle.meaning.specs.Rows.{rowLimit, rows}
 use Rattle.meaning.specs.Sound.{soundPiece, soundHeld, eventLimit}
+use Rattle.meaning.specs.Wide.{wideHeld, wideValuation, wideBook}
 use Rattle.automaton.proofs.Few.{few-rows}
-use Rattle.bounded.specs.Wide.{wide, wideHeld, wideValuation, wideBook}
-use Rattle.bounded.specs.Bounded.{heldOf, rowLimit, freeRows}
-use Rattle.bounded.proofs.Picks.{held-positions}
+use Rattle.bounded.specs.Bounded.{freeRows}
 use Rattle.bounded.proofs.Wide.{wide-sound, wide-held, wide-room, wide-rows, wide-free}
 use Rattle.table.specs.Tables.{viewSymbol}
 use Rattle.demand.specs.declared.Constraint.{Constraint}
 use Rattle.demand.specs.Constraints.{viewConstraint}
-use Rattle.packed.specs.Sets.{disjunctsIn}
-use Rattle.packed.proofs.Sets.{in-length, wide-in}
 use Rattle.book.specs.declared.Book.{Book}
 use Rattle.book.specs.Books.{viewBook}
 use Rattle.packed.specs.Held.{heldIn, heldGrown}
-use Rattle.labels.proofs.Held.{grown-held, full-held}
+use Rattle.packed.proofs.Held.{grown-held, full-held, positions-in, width-in}
 use Rattle.state.specs.declared.State.{State}
 use Rattle.state.specs.States.{stateOf, heldFirst, viewState}
 use Rattle.state.proofs.States.{state-wide}
@@ -49,38 +43,6 @@ use Rattle.calls.specs.Calls.{rowsBy, stateBy, leavesFreeBy, roomBy}
 use Rattle.transition.specs.Moves.{judgedNumber, Moved}
 use Rattle.transition.proofs.Checks.{BookSound, StateSound, judged-free, judged-many, judged-room, stepNumber, number-judged}
 use Rattle.transition.proofs.Checks.{decoded-record, decoded-view}
-
--- the positions of what is held
-positions-in : (n : ℕ) (at w : List ℕ) → n ≤ 128 → map (λ h. h .position) (heldIn n at w) ≡ take n at
-unfolding heldIn
-positions-in n at w h =
-    let a = length-take n at in
-    let c = length-take-le n (disjunctsIn w) (omega (arith, in-length w)) in
-    held-positions (take n at) (take n (disjunctsIn w)) (omega arith)
-
--- a held disjunct is one of the disjuncts
-held-disjunct : (ps : List ℕ) (l : List Disjunct) (h : Held) → List·Memᴰ h (heldOf ps l) → List·Memᴰ (h .disjunct) l
-held-disjunct [] l h m = absurd (List·Memᴰ·not-nil m)
-held-disjunct (p ∷ ps) [] h m = absurd (List·Memᴰ·not-nil m)
-held-disjunct (p ∷ ps) (D ∷ l) h m =
-    ⊎-elim (λ e. List·Memᴰ·head (ap (λ x. x .disjunct) e)) (λ k. List·Memᴰ·tail (held-disjunct ps l h k)) (List·Memᴰ·cases-cons m)
-
--- a disjunct that is held in lent words has four entries
-four-in : (n : ℕ) (at w : List ℕ) (h : Held) → List·Memᴰ h (heldIn n at w) → length (h .disjunct) ≡ 4
-unfolding heldIn
-four-in n at w h m =
-    let k = mem-index [] (mem-take n (held-disjunct (take n at) (take n (disjunctsIn w)) h m)) in
-    sym (ap length (k .2)) ∙ wide-in w (k .0) (omega (arith, k .1, in-length w))
-
--- what has n elements once it is padded had no more before
-pub pad-few : {A : Type 0} (n : ℕ) (d : A) (l : List A) → length (pad n d l) ≡ n → length l ≤ n
-unfolding pad
-pad-few n d l h = omega (arith, h, length-append l (replicate (n - length l) d))
-
--- what is made four wide and held in lent words had no more entries
-held-few : (n : ℕ) (at w : List ℕ) (l : List Held) → heldIn n at w ≡ map wideHeld l → (h : Held) → List·Memᴰ h l → length (h .disjunct) ≤ 4
-unfolding wideHeld wide
-held-few n at w l e h m = pad-few 4 (free []) (h .disjunct) (four-in n at w (wideHeld h) (rw e (mem-map wideHeld (wideHeld h) l .1 (h, m, refl))))
 
 wide-position : (l : List Held) → map (λ h. h .position) (map wideHeld l) ≡ map (λ h. h .position) l
 unfolding wideHeld
@@ -192,7 +154,7 @@ module _ (b : Book) (s : State) (fb : BookSound b) (fs : StateSound b s) where
         stored-known h =
             let r = room-held h in
             ap₂ (λ n l. stateOf (record { number = n; held = l })) (add-one (s .number)) (r .1)
-            ∙ state-wide (suc (s .number)) after (held-few k at′ w′ after (r .1))
+            ∙ state-wide (suc (s .number)) after (width-in k at′ w′ after (r .1))
 
         -- the answer of `moved` where there is no room, and where there is
         pub room-none : 128 < k → {n : ℕ} → n ≡ 12 → {next : State} {m : ℕ} {out : List ℕ}

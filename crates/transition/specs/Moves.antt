@@ -7,8 +7,8 @@ use lib.Dec.{eqb}
 use lib.ListN.{length, take}
 use Rattle.meaning.specs.Events as Events
 use Rattle.meaning.specs.Sound.{eventLimit}
-use Rattle.bounded.specs.Wide.{wideValuation}
-use Rattle.bounded.specs.Bounded.{rowLimit}
+use Rattle.meaning.specs.Wide.{wideValuation}
+use Rattle.meaning.specs.Rows.{rowLimit}
 use Rattle.rows.specs.Valuations.{valuationsIn}
 use Rattle.book.specs.declared.Book.{Book}
 use Rattle.state.specs.declared.State.{State}

@@ -13,7 +13,7 @@ ghost use Rattle.meaning.specs.Events as Events;
 ghost use Rattle.meaning.specs.Book.{followers};
 ghost use Rattle.meaning.specs.Limits.{argumentLimit};
 ghost use Rattle.meaning.specs.Sound.{eventLimit};
-ghost use Rattle.bounded.specs.Wide.{wideHeld};
+ghost use Rattle.meaning.specs.Wide.{wideHeld};
 ghost use Rattle.record.specs.Records.{eventIn, viewEvent};
 ghost use Rattle.demand.specs.Constraints.{viewConstraint, noConstraint, Ready};
 ghost use Rattle.book.specs.Books.{viewBook};

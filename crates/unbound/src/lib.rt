@@ -16,7 +16,7 @@ ghost use Rattle.meaning.specs.Events.{Event, constraintOf};
 ghost use Rattle.meaning.specs.Book.{soundBook, followers};
 ghost use Rattle.meaning.specs.Room.{heldLimit};
 ghost use Rattle.meaning.specs.Limits.{variableLimit};
-ghost use Rattle.bounded.specs.Wide.{wideBook};
+ghost use Rattle.meaning.specs.Wide.{wideBook};
 ghost use Rattle.bounded.specs.Bounded.{pick, withStart, freeIn, freeRows};
 ghost use Rattle.demand.specs.Constraints.{viewConstraint, noConstraint, Ready};
 ghost use Rattle.disjunct.specs.Disjuncts.{viewDisjunct};

@@ -10,10 +10,11 @@ use lib.Dec.{leb}
 use lib.ListN.{length, take}
 use Rattle.laws.specs.Lists.{gather}
 use Rattle.laws.specs.Parts.{splice}
-use Rattle.laws.proofs.Lists.{mem-map}
+use Rattle.laws.proofs.Lists.{mem-map, mem-take}
 use Rattle.laws.proofs.Maps.{gather-agree, gather-map}
+use Rattle.laws.proofs.Parts.{pad-few}
 use Rattle.meaning.specs.Events.{Valuation}
-use Rattle.bounded.specs.Wide.{wideValuation}
+use Rattle.meaning.specs.Wide.{wideValuation}
 use Rattle.form.specs.Text.{Bytes}
 use Rattle.record.specs.Records.{eventIn}
 use Rattle.book.specs.declared.Book.{Book}
@@ -34,7 +35,6 @@ use Rattle.calls.specs.declared.EventAnswer.{EventAnswer}
 use Rattle.calls.specs.declared.EventAnswer.the-variants.{Accepted, Unsound, OutOfForm, TooMany, NoRoom, NoSpace}
 use Rattle.calls.specs.declared.Taken.{Taken}
 use Rattle.transition.proofs.Checks.{stepNumber, number-book, BookSound, book-facts}
-use Rattle.transition.proofs.Steps.{mem-take, pad-few}
 
 -- the answer of the checks 9 to 12, and a where none of them fails
 abbrev four : (p q m n : Bool) → EventAnswer → EventAnswer

@@ -9,7 +9,7 @@ use Rattle.laws.specs.Lists.{gather}
 use Rattle.laws.specs.Parts.{front, splice}
 use Rattle.laws.proofs.Lists.{mem-getD, mem-take}
 use Rattle.meaning.specs.Events.{Valuation}
-use Rattle.bounded.specs.Bounded.{rowLimit}
+use Rattle.meaning.specs.Rows.{rowLimit}
 use Rattle.rows.specs.Valuations.{valuationsIn}
 use Rattle.rows.proofs.Valuations.{in-length, wide-in}
 use Rattle.row.specs.RowBytes.{bytesOf, withValues}

@@ -8,7 +8,7 @@ ghost use lib.ListN.{length, take};
 ghost use Rattle.laws.specs.Lists.{gather};
 ghost use Rattle.laws.specs.Parts.{front, splice};
 ghost use Rattle.meaning.specs.Limits.{variableLimit};
-ghost use Rattle.bounded.specs.Bounded.{rowLimit};
+ghost use Rattle.meaning.specs.Rows.{rowLimit};
 ghost use Rattle.rows.specs.Valuations.{valuationsIn};
 ghost use Rattle.row.specs.RowBytes.{rowSize, bytesOf, withValues};
 

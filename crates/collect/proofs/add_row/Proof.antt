@@ -3,8 +3,7 @@ use mathlib.Core.Path.{sym, ap, _∙_}
 use lib.ListN.{take}
 use borrow.Author.Needs.{needs}
 use Rattle.laws.specs.Sets.{insert, within}
-use Rattle.meaning.specs.Rows.{compareValuations, valuationOf}
-use Rattle.bounded.specs.Bounded.{rowLimit}
+use Rattle.meaning.specs.Rows.{rowLimit, compareValuations, valuationOf}
 use Rattle.bounded.proofs.RowSets.{row-met, row-unmet}
 use Rattle.demand.specs.Constraints.{viewConstraint}
 use Rattle.disjunct.specs.Disjuncts.{viewDisjunct}

@@ -6,9 +6,9 @@ use native.Mathlib.Omega.{arith}
 use borrow.Author.Needs.{needs}
 use Rattle.laws.specs.Sets.{within}
 use Rattle.meaning.specs.Events.{Event}
-use Rattle.meaning.specs.Rows.{rows}
-use Rattle.bounded.specs.Wide.{wideBook}
-use Rattle.bounded.specs.Bounded.{rowLimit, rowsWith}
+use Rattle.meaning.specs.Rows.{rowLimit, rows}
+use Rattle.meaning.specs.Wide.{wideBook}
+use Rattle.bounded.specs.Bounded.{rowsWith}
 use Rattle.demand.specs.Constraints.{viewConstraint}
 use Rattle.book.specs.Books.{viewBook}
 use Rattle.packed.specs.Held.{heldIn}

@@ -11,7 +11,8 @@ use Rattle.laws.specs.Bits.{bit}
 use Rattle.laws.specs.Sets.{Grown}
 use Rattle.meaning.specs.Events.{Valuation}
 use Rattle.meaning.specs.Labels.{freeDisjunct}
-use Rattle.bounded.specs.Bounded.{pick, withStart, rowLimit, rowsWith}
+use Rattle.meaning.specs.Rows.{rowLimit}
+use Rattle.bounded.specs.Bounded.{pick, withStart, rowsWith}
 use Rattle.bounded.proofs.RowSets.{rows-none}
 use Rattle.demand.specs.Constraints.{viewConstraint}
 use Rattle.disjunct.specs.Disjuncts.{viewDisjunct}

@@ -5,8 +5,7 @@ use native.Mathlib.Omega.{arith}
 use borrow.Author.Needs.{needs}
 use lib.ListN.{length}
 use Rattle.laws.proofs.Turns.{insert-found, insert-over, insert-put}
-use Rattle.meaning.specs.Rows.{compareValuations}
-use Rattle.bounded.specs.Bounded.{rowLimit}
+use Rattle.meaning.specs.Rows.{rowLimit, compareValuations}
 use Rattle.rows.specs.Valuations.{valuationsIn}
 use Rattle.rows.proofs.Valuations.{in-length, in-counted, in-full}
 use Rattle.rows.proofs.insert_row.Statement.{statement}

@@ -8,7 +8,7 @@ use borrow.Author.Needs.{needs}
 use lib.ListN.{getD}
 use Rattle.laws.proofs.Turns.{Passed, Compared, passed-none, passed-more, passed-found, passed-behind, passed-all}
 use Rattle.meaning.specs.Rows.{compareValuations}
-use Rattle.automaton.proofs.Orders.{valuation-order}
+use Rattle.laws.proofs.Order.{compare-order, lex-order}
 use Rattle.slot.specs.Slots.{rank}
 use Rattle.slot.proofs.Slots.{rank-before, rank-equal}
 use Rattle.rows.specs.Valuations.{valuationsIn}
@@ -40,7 +40,7 @@ compared : (c : tie.After-compare Inv-loop μ-loop) → let s = c .before .befor
 compared c =
     let s = c .before .before .before in
     record {
-      order = valuation-order;
+      order = lex-order compare-order;
       room = omega (arith, in-length (s .before .args .words .now));
       rises = s .before .pre .1;
       next = omega arith;

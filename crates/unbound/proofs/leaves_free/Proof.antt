@@ -5,7 +5,7 @@ use Prim.Native.Nat.{_+_, _-_, _≤_, _<_}
 use native.Mathlib.Omega.{arith}
 use borrow.Author.Needs.{needs}
 use Rattle.meaning.specs.Events.{Event}
-use Rattle.bounded.specs.Wide.{wideBook}
+use Rattle.meaning.specs.Wide.{wideBook}
 use Rattle.bounded.specs.Bounded.{freeRows}
 use Rattle.book.specs.Books.{viewBook}
 use Rattle.packed.specs.Held.{heldIn}
