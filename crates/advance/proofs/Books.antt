@@ -30,6 +30,7 @@ use Rattle.demand.specs.Constraints.{viewConstraint, noConstraint}
 use Rattle.packed.specs.Sets.{disjunctsIn}
 use Rattle.book.specs.declared.Book.{Book}
 use Rattle.book.specs.Books.{viewBook}
+use Rattle.book.specs.Counts.{viewFrom}
 use Rattle.packed.specs.Held.{heldIn, heldGrown}
 use Rattle.packed.proofs.Held.{held-grown, held-full}
 
@@ -52,37 +53,37 @@ symbols-below : (b : Plain.Book) → Plain.soundBook b ≡ true → all (λ a. l
 unfolding Plain.soundBook
 symbols-below b h = let p = simp and-eq-true-iff at h in search
 
-module _ (b : Book) (i : ℕ) (h : i < b .positions) (long : length (b .occurrences) ≡ 31) (few : b .positions ≤ 31) where
+module _ (b : Book) (m i : ℕ) (h : i < b .positions) (long : length (b .occurrences) ≡ 31) (few : b .positions ≤ 31) where
   -- the symbol's number at position i + 1
   abbrev number : ℕ
   number = getD (b .occurrences) i 0
 
-  number-in : Plain.soundBook (viewBook b) ≡ true → number < length (viewBook b .symbols)
+  number-in : Plain.soundBook (viewFrom m b) ≡ true → number < length (viewBook b .symbols)
   unfolding viewBook
   number-in s =
       let f : ℕ → Bool = λ a. ltb a (length (viewBook b .symbols)) in
-      ltb-true number _ (all-taken f (b .positions) (b .occurrences) i 0 (symbols-below (viewBook b) s) (omega arith) h)
+      ltb-true number _ (all-taken f (b .positions) (b .occurrences) i 0 (symbols-below (viewFrom m b) s) (omega arith) h)
 
-  pub number-below : Plain.soundBook (viewBook b) ≡ true → number < b .symbols
+  pub number-below : Plain.soundBook (viewFrom m b) ≡ true → number < b .symbols
   unfolding viewBook
   number-below s =
       omega (arith, number-in s, length-map (take (b .symbols) (b .table)) viewSymbol, length-take (b .symbols) (b .table))
 
   -- what the position has, in the book of the matcher
-  followers-at : Plain.followers (viewBook b) (i + 1) ≡ getD (b .follows) i 0
+  followers-at : Plain.followers (viewFrom m b) (i + 1) ≡ getD (b .follows) i 0
   unfolding viewBook
   followers-at = rw (add-sub-cancel i 1, getD-take (b .positions) (b .follows) i 0 h)
 
-  symbol-at : Plain.symbolOf (viewBook b) (i + 1) ≡ getD (viewBook b .symbols) number noSymbol
+  symbol-at : Plain.symbolOf (viewFrom m b) (i + 1) ≡ getD (viewBook b .symbols) number noSymbol
   unfolding viewBook
   symbol-at = rw (add-sub-cancel i 1, getD-take (b .positions) (b .occurrences) i 0 h)
 
 -- the positions of the book are as many as it counts
-positions-all : (b : Book) → length (b .occurrences) ≡ 31 → b .positions ≤ 31 → numbers 1 (b .positions - 0) ≡ Plain.positions (wideBook (viewBook b))
+positions-all : (b : Book) (m : ℕ) → length (b .occurrences) ≡ 31 → b .positions ≤ 31 → numbers 1 (b .positions - 0) ≡ Plain.positions (wideBook (viewFrom m b))
 unfolding viewBook wideBook
-positions-all b l h = ap (numbers 1) (sub-zero (b .positions) ∙ sym (length-take-le (b .positions) (b .occurrences) (omega arith)))
+positions-all b m l h = ap (numbers 1) (sub-zero (b .positions) ∙ sym (length-take-le (b .positions) (b .occurrences) (omega arith)))
 
-module _ (b : Book) (cs : List Constraint) (held at : List ℕ) (n : ℕ) where
+module _ (b : Book) (m : ℕ) (cs : List Constraint) (held at : List ℕ) (n : ℕ) where
   -- the constraints are those of the event
   abbrev Told : Events.Event → Type 0
   Told e = map viewConstraint (take (b .symbols) cs) ≡ map (λ s. Events.constraintOf s e) (viewBook b .symbols)
@@ -90,11 +91,11 @@ module _ (b : Book) (cs : List Constraint) (held at : List ℕ) (n : ℕ) where
   -- what the event makes of what is held
   abbrev result : Events.Event → Grown Held
   result e =
-      cond (room (wideBook (viewBook b)) (heldIn n at held) e) (grown (newHeld (wideBook (viewBook b)) (heldIn n at held) e)) full
+      cond (room (wideBook (viewFrom m b)) (heldIn n at held) e) (grown (newHeld (wideBook (viewFrom m b)) (heldIn n at held) e)) full
 
   -- the labels from position i + 1 on, behind g
   abbrev ahead : Events.Event → ℕ → Grown Held → Grown Held
-  ahead e i g = advanced (wideBook (viewBook b)) (heldIn n at held) e (numbers (i + 1) (b .positions - i)) g
+  ahead e i g = advanced (wideBook (viewFrom m b)) (heldIn n at held) e (numbers (i + 1) (b .positions - i)) g
 
   -- so many are held so far, and with the labels ahead they are what the event makes
   pub record Advancing (i total : ℕ) (positions words : List ℕ) : Type 0 where
@@ -106,20 +107,20 @@ module _ (b : Book) (cs : List Constraint) (held at : List ℕ) (n : ℕ) where
     pub more : r ≤ 128 → Advancing (i + 1) r positions words
     pub over : 128 < r → (at′ w′ : List ℕ) (e : Events.Event) → Told e → heldGrown 129 at′ w′ ≡ result e
 
-  pub ascending-at : (q : ℕ) → soundHeld (wideBook (viewBook b)) (heldIn n at held) ≡ true
+  pub ascending-at : (q : ℕ) → soundHeld (wideBook (viewFrom m b)) (heldIn n at held) ≡ true
       → ascending compareDisjuncts (pick (eqb q) (take n at) (take n (disjunctsIn held))) ≡ true
   unfolding heldIn
   ascending-at q s =
       ap (ascending compareDisjuncts) (sym (label-pick (take n at) (take n (disjunctsIn held)) q))
-      ∙ label-ascending (wideBook (viewBook b)) (heldIn n at held) q s
+      ∙ label-ascending (wideBook (viewFrom m b)) (heldIn n at held) q s
 
   pub advancing-none : (positions words : List ℕ) → length (b .occurrences) ≡ 31 → b .positions ≤ 31 → Advancing 0 0 positions words
   unfolding heldIn
   advancing-none positions words l h =
       record {
         few = omega arith;
-        whole = λ e t. ap (λ k. advanced (wideBook (viewBook b)) (heldIn n at held) e k (grown [])) (positions-all b l h)
-            ∙ advanced-all (wideBook (viewBook b)) (heldIn n at held) e;
+        whole = λ e t. ap (λ k. advanced (wideBook (viewFrom m b)) (heldIn n at held) e k (grown [])) (positions-all b m l h)
+            ∙ advanced-all (wideBook (viewFrom m b)) (heldIn n at held) e;
       }
 
   pub advancing-done : (i total : ℕ) (positions words : List ℕ) → b .positions ≤ i → Advancing i total positions words
@@ -127,39 +128,39 @@ module _ (b : Book) (cs : List Constraint) (held at : List ℕ) (n : ℕ) where
   advancing-done i total positions words h g e t =
       let none : b .positions - i ≡ 0 = omega arith in
       held-grown total positions words (g .few)
-      ∙ sym (ap (λ k. advanced (wideBook (viewBook b)) (heldIn n at held) e (numbers (i + 1) k) (grown (heldIn total positions words))) none) ∙ g .whole e t
+      ∙ sym (ap (λ k. advanced (wideBook (viewFrom m b)) (heldIn n at held) e (numbers (i + 1) k) (grown (heldIn total positions words))) none) ∙ g .whole e t
 
   -- one turn: the new label of position i + 1 behind what is held so far
   module _ (i total r : ℕ) (positions words positions′ words′ masks : List ℕ) (begins : Bool) (h : i < b .positions) (long : length (b .occurrences) ≡ 31)
-      (few : b .positions ≤ 31) (sound : Plain.soundBook (viewBook b) ≡ true) (followed : take n masks ≡ map (Plain.followers (viewBook b)) (take n at))
-      (first : begins ≡ bit (i + 1) (b .begins)) (g : Advancing i total positions words)
+      (few : b .positions ≤ 31) (sound : Plain.soundBook (viewFrom m b) ≡ true) (followed : take n masks ≡ map (Plain.followers (viewBook b)) (take n at))
+      (first : begins ≡ bit (i + 1) m) (g : Advancing i total positions words)
       (put : heldGrown r positions′ words′ ≡ appended (i + 1) (heldIn total positions words)
       (labelled (viewConstraint (getD cs (getD (b .occurrences) i 0) noConstraint)) (map viewConstraint (take (b .symbols) cs)) begins
       (not (eqb (getD (b .follows) i 0) 0)) (i + 1) (take n at) (take n masks) (take n (disjunctsIn held)))) where
-    begins-at : begins ≡ Plain.beginsAt (viewBook b) (i + 1)
+    begins-at : begins ≡ Plain.beginsAt (viewFrom m b) (i + 1)
     unfolding viewBook
     begins-at = first
 
     constraint-at : (e : Events.Event) → Told e
-        → viewConstraint (getD cs (getD (b .occurrences) i 0) noConstraint) ≡ Events.constraintOf (Plain.symbolOf (viewBook b) (i + 1)) e
+        → viewConstraint (getD cs (getD (b .occurrences) i 0) noConstraint) ≡ Events.constraintOf (Plain.symbolOf (viewFrom m b) (i + 1)) e
     constraint-at e t =
         let y = getD (b .occurrences) i 0 in
-        ap viewConstraint (sym (getD-take (b .symbols) cs y noConstraint (number-below b i h long few sound)))
+        ap viewConstraint (sym (getD-take (b .symbols) cs y noConstraint (number-below b m i h long few sound)))
         ∙ same-at viewConstraint (λ s. Events.constraintOf s e) (take (b .symbols) cs) (viewBook b .symbols) t y noConstraint noSymbol
-        (number-in b i h long few sound) ∙ ap (λ s. Events.constraintOf s e) (sym (symbol-at b i h long few))
+        (number-in b m i h long few sound) ∙ ap (λ s. Events.constraintOf s e) (sym (symbol-at b m i h long few))
 
     label-at : (e : Events.Event) → Told e
         → labelled (viewConstraint (getD cs (getD (b .occurrences) i 0) noConstraint)) (map viewConstraint (take (b .symbols) cs)) begins
         (not (eqb (getD (b .follows) i 0) 0)) (i + 1) (take n at) (take n masks) (take n (disjunctsIn held))
-        ≡ labelAt (wideBook (viewBook b)) (heldIn n at held) e (i + 1)
+        ≡ labelAt (wideBook (viewFrom m b)) (heldIn n at held) e (i + 1)
     unfolding heldIn
     label-at e t =
-        rw (constraint-at e t, t, begins-at, ← followers-at b i h long few, followed)
-        (labelled-at (viewBook b) (take n at) (take n (disjunctsIn held)) e (i + 1))
+        rw (constraint-at e t, t, begins-at, ← followers-at b m i h long few, followed)
+        (labelled-at (viewFrom m b) (take n at) (take n (disjunctsIn held)) e (i + 1))
 
     turned : (e : Events.Event) → Told e → ahead e (i + 1) (heldGrown r positions′ words′) ≡ result e
     turned e t =
-        let B = wideBook (viewBook b) in
+        let B = wideBook (viewFrom m b) in
         let H = heldIn n at held in
         ap (ahead e (i + 1)) (put ∙ ap (appended (i + 1) (heldIn total positions words)) (label-at e t))
         ∙ sym (ap (λ k. advanced B H e k (grown (heldIn total positions words))) (numbers-next i (b .positions) h)) ∙ g .whole e t
@@ -169,6 +170,6 @@ module _ (b : Book) (cs : List Constraint) (held at : List ℕ) (n : ℕ) where
         record {
           more = λ k. record { few = k; whole = λ e t. ap (ahead e (i + 1)) (sym (held-grown r positions′ words′ k)) ∙ turned e t };
           over = λ k at′ w′ e t. held-full 129 at′ w′ (omega arith)
-              ∙ sym (advanced-full (wideBook (viewBook b)) (heldIn n at held) e (numbers (i + 1 + 1) (b .positions - (i + 1))))
+              ∙ sym (advanced-full (wideBook (viewFrom m b)) (heldIn n at held) e (numbers (i + 1 + 1) (b .positions - (i + 1))))
               ∙ ap (ahead e (i + 1)) (sym (held-full r positions′ words′ k)) ∙ turned e t;
         }

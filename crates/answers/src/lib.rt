@@ -3,21 +3,6 @@
 use calls::EventAnswer;
 ghost use mathlib.Core.Path.{_≡_};
 ghost use Rattle.calls.specs.Answers.{numberOf, placeOf};
-ghost use Rattle.answers.specs.Inner.{answerOf};
-
-// The answer with a number.
-pub fn answer_of(number: usize) -> EventAnswer
-    ensures { λ r. ⌜ r ≡ answerOf number ⌝ }
-{
-    match number {
-        0 => EventAnswer::Accepted,
-        9 => EventAnswer::Unsound,
-        10 => EventAnswer::OutOfForm,
-        11 => EventAnswer::TooMany,
-        12 => EventAnswer::NoRoom,
-        _ => EventAnswer::NoSpace,
-    }
-}
 
 // Document 01's number of an answer.
 pub fn number_of(a: EventAnswer) -> usize

@@ -1,7 +1,7 @@
 -- The rows of an event position by position: growing a bounded set of rows by those of each ending position in turn gives the rows,
--- and so goes the test whether a row would leave a variable free. For the crate collect.
+-- and beside them goes the test whether a row would leave a variable free. For the crate collect.
 use mathlib.Core.Path.{_≡_, refl, sym, ap, ap₂, _∙_}
-use mathlib.Core.Bool.{Bool, true, false, cond, _&&_, _||_, or-false}
+use mathlib.Core.Bool.{Bool, true, false, cond, _||_, or-false, or-assoc}
 use mathlib.Core.List.{List, [], _∷_, _++_, map, map-append, map-id, List·Memᴰ}
 use Prim.Native.Nat.{ℕ, _+_, _≤_, _<_, Ordering}
 use native.Mathlib.Numerals.{add-one}
@@ -11,9 +11,8 @@ use lib.ListN.{length, take, drop, getD, drop-of-length-le}
 use lib.Seq.{drop-cons}
 use Rattle.laws.specs.Bits.{bit}
 use Rattle.laws.specs.Lists.{any, keep, gather, numbers}
-use Rattle.laws.specs.Order.{IsOrder, ascending}
-use Rattle.laws.specs.Sets.{insert, setOf, Grown, full, grown, within, growAll}
-use Rattle.laws.proofs.Lists.{any-append, any-keep, any-agree, keep-append, mem-map, mem-gather, length-numbers, getD-numbers}
+use Rattle.laws.specs.Sets.{insert, setOf, Grown, full, grown, within, grow, growAll}
+use Rattle.laws.proofs.Lists.{any-append, any-agree, keep-append, mem-map, mem-gather, length-numbers, getD-numbers}
 use Rattle.laws.proofs.Maps.{gather-agree}
 use Rattle.laws.proofs.Sets.{insert-ascending, mem-setOf, setOf-ascending, same-members, growAll-within}
 use Rattle.meaning.specs.Events.{Event, Constraint, never, Valuation, constraintOf}
@@ -22,28 +21,26 @@ use Rattle.meaning.specs.Labels.{Disjunct, isFree, compareDisjuncts, meets, met
 use Rattle.meaning.specs.Rows.{rowLimit, compareValuations, valuationOf, rows}
 use Rattle.automaton.proofs.Orders.{disjunct-order, valuation-order}
 use Rattle.meaning.specs.Wide.{wideBook}
-use Rattle.bounded.specs.Bounded.{pick, withStart, metList, metSet, rowsWith, freeIn, freeRows}
+use Rattle.bounded.specs.Bounded.{pick, withStart, metList, metSet, rowsWith, freeIn, freeRows, rowsAscend, Yield, noYield, yieldWith}
 use Rattle.bounded.proofs.Picks.{sources-pick, step-met}
 
 module _ {A : Type 0} (cmp : A → A → Ordering) (cap : ℕ) where
-  grow-full : (xs : List A) → growAll cmp cap xs full ≡ full
-  grow-full [] = refl
-  grow-full (x ∷ xs) = grow-full xs
-
   grow-append : (xs ys : List A) (g : Grown A) → growAll cmp cap (xs ++ ys) g ≡ growAll cmp cap ys (growAll cmp cap xs g)
   grow-append [] ys g = refl
   grow-append (x ∷ xs) ys g = grow-append xs ys _
 
-  -- what has grown is ascending where it was before
-  grow-ascending : IsOrder cmp → (xs l r : List A) → ascending cmp l ≡ true → growAll cmp cap xs (grown l) ≡ grown r → ascending cmp r ≡ true
-  grow-ascending o [] l r h e = let same : l ≡ r = cc in rw same at h
-  grow-ascending o (x ∷ xs) l r h e =
-      go (leb (length (insert cmp x l)) cap) e (grow-ascending o xs (insert cmp x l) r (insert-ascending o x l h))
-    where
-      go : (b : Bool) → growAll cmp cap xs (cond b (grown (insert cmp x l)) full) ≡ grown r
-          → (growAll cmp cap xs (grown (insert cmp x l)) ≡ grown r → ascending cmp r ≡ true) → ascending cmp r ≡ true
-      go true q ih = ih q
-      go false q ih = let z : _≡_ {A = ℕ} 0 1 = cc (grow-full xs, q) in absurd (omega arith)
+-- what has grown ascends where it did before
+row-ascends : (σ : Valuation) (g : Grown Valuation) → rowsAscend g ≡ true → rowsAscend (grow compareValuations rowLimit σ g) ≡ true
+row-ascends σ full h = refl
+row-ascends σ (grown l) h = go (leb (length (insert compareValuations σ l)) rowLimit)
+  where
+    go : (b : Bool) → rowsAscend (cond b (grown (insert compareValuations σ l)) full) ≡ true
+    go true = insert-ascending valuation-order σ l h
+    go false = refl
+
+rows-ascend : (xs : List Valuation) (g : Grown Valuation) → rowsAscend g ≡ true → rowsAscend (growAll compareValuations rowLimit xs g) ≡ true
+rows-ascend [] g h = h
+rows-ascend (x ∷ xs) g h = rows-ascend xs _ (row-ascends x g h)
 
 -- the disjuncts that meet a constraint
 pub met-append : (c : Constraint) (k l : List Disjunct) → metList c (k ++ l) ≡ metList c k ++ metList c l
@@ -63,62 +60,56 @@ pub met-none : (c : Constraint) (D : Disjunct) → meets D c ≡ false → metLi
 unfolding metList
 met-none c D h = rw h
 
--- the rows of a constraint and of disjuncts, put among others
-module _ (c : Constraint) where
-  pub rows-append : (k l : List Disjunct) (g : Grown Valuation) → rowsWith c (k ++ l) g ≡ rowsWith c l (rowsWith c k g)
-  unfolding rowsWith
-  rows-append k l g =
-      ap (λ xs. growAll compareValuations rowLimit xs g) (ap (map valuationOf) (met-append c k l) ∙ map-append valuationOf (metList c k) (metList c l))
-      ∙ grow-append compareValuations rowLimit (map valuationOf (metList c k)) (map valuationOf (metList c l)) g
+-- what the meetings of disjuncts with a constraint give
+module _ (n : ℕ) (c : Constraint) where
+  -- by the disjuncts that meet it
+  yields : List Disjunct → Yield → Yield
+  yields m y =
+      record { rows = growAll compareValuations rowLimit (map valuationOf m) (y .rows); free = y .free || any (λ D. any isFree (take n D)) m }
 
-  pub rows-none : (g : Grown Valuation) → rowsWith c [] g ≡ g
-  unfolding rowsWith metList
-  rows-none g = refl
+  by-met : (l : List Disjunct) (y : Yield) → yieldWith n c l y ≡ yields (metList c l) y
+  unfolding yieldWith rowsWith freeIn yields
+  by-met l y = refl
 
-  pub rows-full : (l : List Disjunct) → rowsWith c l full ≡ full
-  unfolding rowsWith
-  rows-full l = grow-full compareValuations rowLimit (map valuationOf (metList c l))
+  pub yield-append : (k l : List Disjunct) (y : Yield) → yieldWith n c (k ++ l) y ≡ yieldWith n c l (yieldWith n c k y)
+  unfolding yieldWith rowsWith freeIn
+  yield-append k l y =
+      let f : Disjunct → Bool = λ D. any isFree (take n D) in
+      ap₂ (λ xs t. record { rows = growAll compareValuations rowLimit xs (y .rows); free = y .free || t })
+      (ap (map valuationOf) (met-append c k l) ∙ map-append valuationOf (metList c k) (metList c l))
+      (ap (any f) (met-append c k l) ∙ any-append f (metList c k) (metList c l))
+      ∙ ap₂ (λ g t. record { rows = g; free = t })
+      (grow-append compareValuations rowLimit (map valuationOf (metList c k)) (map valuationOf (metList c l)) (y .rows))
+      (sym (or-assoc (y .free) (any f (metList c k)) (any f (metList c l))))
 
-  pub rows-ascending : (k : List Disjunct) (l r : List Valuation) → ascending compareValuations l ≡ true → rowsWith c k (grown l) ≡ grown r
-      → ascending compareValuations r ≡ true
-  unfolding rowsWith
-  rows-ascending k l r h e = grow-ascending compareValuations rowLimit valuation-order (map valuationOf (metList c k)) l r h e
+  -- no disjunct
+  nothing-met : (y : Yield) → yields [] y ≡ y
+  unfolding yields
+  nothing-met y = ap (λ t. record { rows = y .rows; free = t }) (or-false (y .free))
 
-  pub row-met : (D : Disjunct) (l : List Valuation) → meets D c ≡ true
-      → rowsWith c (D ∷ []) (grown l) ≡ within rowLimit (insert compareValuations (valuationOf (met D c)) l)
-  unfolding rowsWith
-  row-met D l h = ap (λ xs. growAll compareValuations rowLimit (map valuationOf xs) (grown l)) (met-one c D h)
+  pub yield-none : (y : Yield) → yieldWith n c [] y ≡ y
+  unfolding metList
+  yield-none y = by-met [] y ∙ nothing-met y
 
-  pub row-unmet : (D : Disjunct) (g : Grown Valuation) → meets D c ≡ false → rowsWith c (D ∷ []) g ≡ g
-  unfolding rowsWith
-  row-unmet D g h = ap (λ xs. growAll compareValuations rowLimit (map valuationOf xs) g) (met-none c D h)
+  -- one disjunct, that meets it or does not
+  pub yield-met : (D : Disjunct) (y : Yield) → meets D c ≡ true
+      → yieldWith n c (D ∷ []) y
+      ≡ record { rows = grow compareValuations rowLimit (valuationOf (met D c)) (y .rows); free = y .free || any isFree (take n (met D c)) }
+  unfolding yields
+  yield-met D y h =
+      by-met (D ∷ []) y ∙ ap (λ m. yields m y) (met-one c D h)
+      ∙ ap (λ t. record { rows = grow compareValuations rowLimit (valuationOf (met D c)) (y .rows); free = y .free || t })
+      (or-false (any isFree (take n (met D c))))
 
-pub rows-never : (l : List Disjunct) (g : Grown Valuation) → rowsWith never l g ≡ g
-unfolding rowsWith
-rows-never l g = ap (λ xs. growAll compareValuations rowLimit (map valuationOf xs) g) (met-never l)
+  pub yield-unmet : (D : Disjunct) (y : Yield) → meets D c ≡ false → yieldWith n c (D ∷ []) y ≡ y
+  yield-unmet D y h = by-met (D ∷ []) y ∙ ap (λ m. yields m y) (met-none c D h) ∙ nothing-met y
 
--- whether one of them leaves one of the first n variables free
-module _ (n : ℕ) where
-  pub free-append : (c : Constraint) (k l : List Disjunct) → freeIn n c (k ++ l) ≡ (freeIn n c k || freeIn n c l)
-  unfolding freeIn
-  free-append c k l =
-      ap (any (λ D. any isFree (take n D))) (met-append c k l) ∙ any-append (λ D. any isFree (take n D)) (metList c k) (metList c l)
+  pub yield-ascends : (l : List Disjunct) (y : Yield) → rowsAscend (y .rows) ≡ true → rowsAscend (yieldWith n c l y .rows) ≡ true
+  unfolding yieldWith rowsWith
+  yield-ascends l y h = rows-ascend (map valuationOf (metList c l)) (y .rows) h
 
-  pub free-none : (c : Constraint) → freeIn n c [] ≡ false
-  unfolding freeIn metList
-  free-none c = refl
-
-  pub free-never : (l : List Disjunct) → freeIn n never l ≡ false
-  unfolding freeIn
-  free-never l = ap (any (λ D. any isFree (take n D))) (met-never l)
-
-  pub free-met : (c : Constraint) (D : Disjunct) → meets D c ≡ true → freeIn n c (D ∷ []) ≡ any isFree (take n (met D c))
-  unfolding freeIn
-  free-met c D h = ap (any (λ E. any isFree (take n E))) (met-one c D h) ∙ or-false (any isFree (take n (met D c)))
-
-  pub free-unmet : (c : Constraint) (D : Disjunct) → meets D c ≡ false → freeIn n c (D ∷ []) ≡ false
-  unfolding freeIn
-  free-unmet c D h = ap (any (λ E. any isFree (take n E))) (met-none c D h)
+pub yield-never : (n : ℕ) (l : List Disjunct) (y : Yield) → yieldWith n never l y ≡ y
+yield-never n l y = by-met n never l y ∙ ap (λ m. yields n never m y) (met-never l) ∙ nothing-met n never y
 
 -- rows of lists of disjuncts are rows of lists that have all of these
 gathered-through : (f g : ℕ → List Disjunct) → ((q : ℕ) (D : Disjunct) → List·Memᴰ D (f q) → List·Memᴰ D (g q)) → (k : List ℕ) (σ : Valuation)
@@ -166,81 +157,66 @@ module _ (b : Book) (ps : List ℕ) (l : List Disjunct) (e : Event) where
   abbrev pub ending : ℕ → List Disjunct
   ending q = cond (endsAt b q) (drawn q) []
 
-  -- the rows of the positions, put among others
-  abbrev pub rowsThrough : List ℕ → Grown Valuation → Grown Valuation
-  rowsThrough [] g = g
-  rowsThrough (q ∷ qs) g = rowsThrough qs (rowsWith (asked q) (ending q) g)
-
-  -- those of the positions from number i + 1 on
-  unfoldable pub rowsFrom : ℕ → Grown Valuation → Grown Valuation
-  rowsFrom i g = rowsThrough (drop i (positions b)) g
-
-  through-full : (qs : List ℕ) → rowsThrough qs full ≡ full
-  through-full [] = refl
-  through-full (q ∷ qs) = ap (rowsThrough qs) (rows-full (asked q) (ending q)) ∙ through-full qs
-
-  pub from-full : (i : ℕ) → rowsFrom i full ≡ full
-  unfolding rowsFrom
-  from-full i = through-full (drop i (positions b))
-
-  pub from-none : (i : ℕ) (g : Grown Valuation) → length (b .occurrences) ≤ i → rowsFrom i g ≡ g
-  unfolding rowsFrom
-  from-none i g h = ap (λ qs. rowsThrough qs g) (no-positions (length (b .occurrences)) i h)
-
-  pub from-next : (i : ℕ) (g : Grown Valuation) → i < length (b .occurrences)
-      → rowsFrom i g ≡ rowsFrom (i + 1) (rowsWith (asked (i + 1)) (ending (i + 1)) g)
-  unfolding rowsFrom
-  from-next i g h = ap (λ qs. rowsThrough qs g) (next-positions (length (b .occurrences)) i h)
-
   -- the rows of position q, if it ends
   found : ℕ → List Valuation
   found q = map valuationOf (metList (asked q) (drawn q))
-
-  -- all the rows that are put, one position's after the other's
-  through-grow : (qs : List ℕ) (g : Grown Valuation)
-      → rowsThrough qs g ≡ growAll compareValuations rowLimit (gather found (keep (endsAt b) qs)) g
-  unfolding rowsWith found metList
-  through-grow [] g = refl
-  through-grow (q ∷ qs) g = through-grow qs _ ∙ go (endsAt b q)
-    where
-      go : (t : Bool) → growAll compareValuations rowLimit (gather found (keep (endsAt b) qs)) (rowsWith (asked q) (cond t (drawn q) []) g)
-          ≡ growAll compareValuations rowLimit (gather found (cond t (q ∷ keep (endsAt b) qs) (keep (endsAt b) qs))) g
-      go true = sym (grow-append compareValuations rowLimit (found q) (gather found (keep (endsAt b) qs)) g)
-      go false = refl
 
   rows-wide : rows (wideBook b) (heldOf ps l) e
       ≡ setOf compareValuations (gather (λ q. map valuationOf (metSet (asked q) (drawn q))) (keep (endsAt b) (positions b)))
   unfolding rows wideBook
   rows-wide = ap (setOf compareValuations) (gather-agree _ _ (keep (endsAt b) (positions b)) (λ q m. ap (map valuationOf) (step-met b ps l e q)))
 
-  -- from the first position on they are the rows of the event
-  pub collected-rows : rowsFrom 0 (grown []) ≡ within rowLimit (rows (wideBook b) (heldOf ps l) e)
-  unfolding rowsFrom metSet found
-  collected-rows =
-      let qs = keep (endsAt b) (positions b) in
-      through-grow (positions b) (grown []) ∙ growAll-within valuation-order rowLimit (gather found qs) [] (omega arith)
-      ∙ ap (within rowLimit) (same-rows (λ q. metList (asked q) (drawn q)) qs ∙ sym rows-wide)
-
   module _ (n : ℕ) where
-    -- whether one of the positions from number i + 1 on would leave one of the first n variables free
-    unfoldable pub freeFrom : ℕ → Bool
-    freeFrom i = any (λ q. freeIn n (asked q) (ending q)) (drop i (positions b))
+    -- what the positions give, behind what was there
+    abbrev yieldThrough : List ℕ → Yield → Yield
+    yieldThrough [] y = y
+    yieldThrough (q ∷ qs) y = yieldThrough qs (yieldWith n (asked q) (ending q) y)
 
-    pub free-end : (i : ℕ) → length (b .occurrences) ≤ i → freeFrom i ≡ false
-    unfolding freeFrom
-    free-end i h = ap (any (λ q. freeIn n (asked q) (ending q))) (no-positions (length (b .occurrences)) i h)
+    -- those from number i + 1 on
+    unfoldable pub yieldFrom : ℕ → Yield → Yield
+    yieldFrom i y = yieldThrough (drop i (positions b)) y
 
-    pub free-next : (i : ℕ) → i < length (b .occurrences) → freeFrom i ≡ (freeIn n (asked (i + 1)) (ending (i + 1)) || freeFrom (i + 1))
-    unfolding freeFrom
-    free-next i h = ap (any (λ q. freeIn n (asked q) (ending q))) (next-positions (length (b .occurrences)) i h)
+    pub from-none : (i : ℕ) (y : Yield) → length (b .occurrences) ≤ i → yieldFrom i y ≡ y
+    unfolding yieldFrom
+    from-none i y h = ap (λ qs. yieldThrough qs y) (no-positions (length (b .occurrences)) i h)
 
-    free-ending : (q : ℕ) (t : Bool) → freeIn n (asked q) (cond t (drawn q) []) ≡ (t && freeIn n (asked q) (drawn q))
-    free-ending q true = refl
-    free-ending q false = free-none n (asked q)
+    pub from-next : (i : ℕ) (y : Yield) → i < length (b .occurrences)
+        → yieldFrom i y ≡ yieldFrom (i + 1) (yieldWith n (asked (i + 1)) (ending (i + 1)) y)
+    unfolding yieldFrom
+    from-next i y h = ap (λ qs. yieldThrough qs y) (next-positions (length (b .occurrences)) i h)
 
-    pub free-all : freeFrom 0 ≡ freeRows n (wideBook b) (heldOf ps l) e
-    unfolding freeFrom freeRows wideBook
-    free-all =
-        any-agree _ _ (positions b) (λ q m. free-ending q (endsAt b q))
-        ∙ sym (any-keep (λ q. freeIn n (asked q) (drawn q)) (endsAt b) (positions b))
-        ∙ any-agree _ _ (keep (endsAt b) (positions b)) (λ q m. ap (freeIn n (asked q)) (sym (sources-pick b ps l q)))
+    -- whether position q leaves a variable free, if it ends
+    open-at : ℕ → Bool
+    open-at q = freeIn n (asked q) (drawn q)
+
+    -- all that positions put that end, one's after the other's
+    put-by : List ℕ → Yield → Yield
+    put-by qs y = record { rows = growAll compareValuations rowLimit (gather found qs) (y .rows); free = y .free || any open-at qs }
+
+    through-all : (qs : List ℕ) (y : Yield) → yieldThrough qs y ≡ put-by (keep (endsAt b) qs) y
+    unfolding yieldWith rowsWith found open-at put-by
+    through-all [] y = ap (λ t. record { rows = y .rows; free = t }) (sym (or-false (y .free)))
+    through-all (q ∷ qs) y = go (endsAt b q) (through-all qs)
+      where
+        k : List ℕ
+        k = keep (endsAt b) qs
+
+        go : (t : Bool) → ((z : Yield) → yieldThrough qs z ≡ put-by k z)
+            → yieldThrough qs (yieldWith n (asked q) (cond t (drawn q) []) y) ≡ put-by (cond t (q ∷ k) k) y
+        go true ih =
+            ih (yieldWith n (asked q) (drawn q) y)
+            ∙ ap₂ (λ g t. record { rows = g; free = t }) (sym (grow-append compareValuations rowLimit (found q) (gather found k) (y .rows)))
+            (or-assoc (y .free) (open-at q) (any open-at k))
+        go false ih = ap (yieldThrough qs) (yield-none n (asked q) y) ∙ ih y
+
+    -- from the first position on they give the rows of the event, and whether one would leave a variable free
+    pub yield-all : yieldFrom 0 noYield
+        ≡ record { rows = within rowLimit (rows (wideBook b) (heldOf ps l) e); free = freeRows n (wideBook b) (heldOf ps l) e }
+    unfolding yieldFrom metSet found freeRows wideBook open-at put-by
+    yield-all =
+        let qs = keep (endsAt b) (positions b) in
+        through-all (positions b) noYield
+        ∙ ap₂ (λ g t. record { rows = g; free = t })
+        (growAll-within valuation-order rowLimit (gather found qs) [] (omega arith)
+        ∙ ap (within rowLimit) (same-rows (λ q. metList (asked q) (drawn q)) qs ∙ sym rows-wide))
+        (any-agree _ _ qs (λ q m. ap (freeIn n (asked q)) (sym (sources-pick b ps l q))))

@@ -1,12 +1,13 @@
 -- The work sets of one event over the lists that the code holds: positions, masks of the positions that follow each, and
 -- disjuncts, the same number of each. A set that may hold only so many elements is `full` once it would hold more.
-use mathlib.Core.Bool.{Bool, cond, _&&_}
+use mathlib.Core.Bool.{Bool, true, false, cond, _&&_, _||_}
 use mathlib.Core.List.{List, [], _∷_, _++_, map}
 use Prim.Native.Nat.{ℕ}
 use lib.Dec.{eqb, leb}
 use lib.ListN.{length, take}
 use Rattle.laws.specs.Bits.{bit}
 use Rattle.laws.specs.Lists.{any, keep}
+use Rattle.laws.specs.Order.{ascending}
 use Rattle.laws.specs.Sets.{insertAll, setOf, Grown, full, grown, within, grow, growAll}
 use Rattle.meaning.specs.Events.{Event, Constraint, Valuation, constraintOf}
 use Rattle.meaning.specs.Book.{Book, positions, endsAt, symbolOf}
@@ -70,3 +71,20 @@ freeIn n c l = any (λ D. any isFree (take n D)) (metList c l)
 -- "a row that would leave a variable free", where only the first n of the book's variables count
 unfoldable pub freeRows : (n : ℕ) → Book → List Held → Event → Bool
 freeRows n b held e = any (λ q. freeIn n (constraintOf (symbolOf b q) e) (sources b held q)) (keep (endsAt b) (positions b))
+
+-- rows that ascend, as far as there is room for them
+abbrev pub rowsAscend : Grown Valuation → Bool
+rowsAscend full = true
+rowsAscend (grown l) = ascending compareValuations l
+
+-- what ending positions give: rows, and whether a meeting leaves one of the book's variables free
+pub record Yield : Type 0 where
+  pub rows : Grown Valuation
+  pub free : Bool
+
+abbrev pub noYield : Yield
+noYield = record { rows = grown []; free = false }
+
+-- the same with the meetings of further disjuncts, where the first n variables count
+unfoldable pub yieldWith : ℕ → Constraint → List Disjunct → Yield → Yield
+yieldWith n c l y = record { rows = rowsWith c l (y .rows); free = y .free || freeIn n c l }

@@ -1,3 +1,3 @@
--- What the proofs of the functions, here and in `unbound`, share: the loops over the held disjuncts (Turns) and over the positions (Symbols).
+-- What the proofs of the functions share: the loop over the held disjuncts (Turns) and the loop over the positions (Symbols).
 pub mod Turns
 pub mod Symbols

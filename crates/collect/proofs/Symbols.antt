@@ -1,7 +1,7 @@
--- The constraint that the code finds for a position is that of the position's symbol, so one turn of the loop over the positions is
--- one step of the rows, and of the test for free variables. For the proofs of `collect` and `leaves_free`.
+-- The constraint that the code finds for a position is that of the position's symbol, so one turn of the loop over the positions adds what
+-- that position gives. For the proof of `collect`.
 use mathlib.Core.Path.{_≡_, refl, sym, ap, ap₂, _∙_}
-use mathlib.Core.Bool.{Bool, true, false, cond, _||_, and-eq-true-iff}
+use mathlib.Core.Bool.{Bool, true, cond, and-eq-true-iff}
 use mathlib.Core.List.{List, [], _∷_, map}
 use Prim.Native.Nat.{ℕ, zero, suc, _+_, _-_, _≤_, _<_}
 use native.Mathlib.Omega.{arith}
@@ -11,7 +11,7 @@ use lib.ListN.{length, take, getD, length-map, length-take, List·getD-map}
 use lib.Seq.{length-take-le, getD-take}
 use Rattle.laws.specs.Bits.{bit}
 use Rattle.laws.specs.Lists.{all}
-use Rattle.laws.specs.Sets.{Grown, full, grown, within}
+use Rattle.laws.specs.Sets.{within}
 use Rattle.laws.proofs.Lists.{all-at, mem-getD}
 use Rattle.meaning.specs.Events as Events
 use Rattle.meaning.specs.Meaning.{noSymbol}
@@ -19,14 +19,14 @@ use Rattle.meaning.specs.Book.{soundBook, followers, symbolOf}
 use Rattle.meaning.specs.Labels.{Disjunct}
 use Rattle.meaning.specs.Rows.{rowLimit, rows}
 use Rattle.meaning.specs.Wide.{wideBook}
-use Rattle.bounded.specs.Bounded.{pick, withStart, rowsWith, freeIn, freeRows}
-use Rattle.bounded.proofs.RowSets.{ending, rowsFrom, from-full, from-none, from-next, collected-rows, freeFrom, free-end, free-next, free-all}
+use Rattle.bounded.specs.Bounded.{pick, withStart, freeRows, Yield, noYield, yieldWith}
+use Rattle.bounded.proofs.RowSets.{ending, yieldFrom, from-none, from-next, yield-all}
 use Rattle.demand.specs.declared.Constraint.{Constraint}
 use Rattle.demand.specs.Constraints.{viewConstraint, noConstraint}
 use Rattle.packed.specs.Sets.{disjunctsIn}
 use Rattle.book.specs.declared.Book.{Book}
 use Rattle.book.specs.Books.{viewBook}
-use Rattle.book.specs.Counts.{Counts}
+use Rattle.book.specs.Counts.{Counts, viewFrom}
 use Rattle.packed.specs.Held.{heldIn}
 
 -- an element that is there does not depend on what stands for one that is not
@@ -53,39 +53,34 @@ abbrev pub Agree : Book → List Constraint → Events.Event → Type 0
 Agree b cs e = map viewConstraint (take (b .symbols) cs) ≡ map (λ s. Events.constraintOf s e) (viewBook b .symbols)
 
 -- the disjuncts of the sources of position q where it ends
-abbrev pub sourcesOf : Book → (n : ℕ) (masks held : List ℕ) → ℕ → List Disjunct
-sourcesOf b n masks held q =
-    cond (bit q (b .ends)) (withStart (bit q (b .begins)) (pick (λ x. bit q x) (take n masks) (take n (disjunctsIn held)))) []
+abbrev pub sourcesOf : Book → (m n : ℕ) (masks held : List ℕ) → ℕ → List Disjunct
+sourcesOf b m n masks held q = cond (bit q (b .ends)) (withStart (bit q m) (pick (λ x. bit q x) (take n masks) (take n (disjunctsIn held)))) []
 
-module _ (b : Book) (n : ℕ) (at held : List ℕ) (e : Events.Event) where
-  -- the rows of the positions from number i + 1 on, put among others
-  unfoldable pub rowsAhead : ℕ → Grown Events.Valuation → Grown Events.Valuation
-  rowsAhead i g = rowsFrom (viewBook b) (take n at) (take n (disjunctsIn held)) e i g
+module _ (b : Book) (m n : ℕ) (at held : List ℕ) (e : Events.Event) where
+  -- what the positions from number i + 1 on give, behind what was there
+  unfoldable pub yieldAhead : ℕ → Yield → Yield
+  yieldAhead i y = yieldFrom (viewFrom m b) (take n at) (take n (disjunctsIn held)) e (b .variables) i y
 
-  pub rows-first : rowsAhead 0 (grown []) ≡ within rowLimit (rows (wideBook (viewBook b)) (heldIn n at held) e)
-  unfolding rowsAhead heldIn
-  rows-first = collected-rows (viewBook b) (take n at) (take n (disjunctsIn held)) e
+  -- what the event gives
+  abbrev pub yieldOf : Yield
+  yieldOf =
+      record {
+        rows = within rowLimit (rows (wideBook (viewFrom m b)) (heldIn n at held) e);
+        free = freeRows (b .variables) (wideBook (viewFrom m b)) (heldIn n at held) e;
+      }
 
-  pub rows-over : (i : ℕ) → rowsAhead i full ≡ full
-  unfolding rowsAhead
-  rows-over i = from-full (viewBook b) (take n at) (take n (disjunctsIn held)) e i
+  pub yield-first : yieldAhead 0 noYield ≡ yieldOf
+  unfolding yieldAhead heldIn
+  yield-first = yield-all (viewFrom m b) (take n at) (take n (disjunctsIn held)) e (b .variables)
 
-  -- whether one of those positions would leave one of the book's variables free
-  unfoldable pub freeAhead : ℕ → Bool
-  freeAhead i = freeFrom (viewBook b) (take n at) (take n (disjunctsIn held)) e (b .variables) i
-
-  pub free-first : freeAhead 0 ≡ freeRows (b .variables) (wideBook (viewBook b)) (heldIn n at held) e
-  unfolding freeAhead heldIn
-  free-first = free-all (viewBook b) (take n at) (take n (disjunctsIn held)) e (b .variables)
-
--- what both loops go by: a sound book within its arrays, and the masks of the positions held
-pub record Known (b : Book) (n : ℕ) (at masks : List ℕ) : Type 0 where
-  pub sound : soundBook (viewBook b) ≡ true
+-- what the loop goes by: a sound book within its arrays, and the masks of the positions held
+pub record Known (b : Book) (m n : ℕ) (at masks : List ℕ) : Type 0 where
+  pub sound : soundBook (viewFrom m b) ≡ true
   pub counts : Counts b
   pub long : length (b .occurrences) ≡ 31
   pub follows : take n masks ≡ map (followers (viewBook b)) (take n at)
 
-module _ {b : Book} {n : ℕ} {at masks : List ℕ} (k : Known b n at masks) where
+module _ {b : Book} {m n : ℕ} {at masks : List ℕ} (k : Known b m n at masks) where
   pub few-variables : b .variables ≤ 4
   unfolding soundBook viewBook
   few-variables = let p = simp and-eq-true-iff at (k .sound) in omega (arith, leb-true)
@@ -116,43 +111,34 @@ module _ {b : Book} {n : ℕ} {at masks : List ℕ} (k : Known b n at masks) whe
 
   -- its constraint is that of the position's symbol
   constraint-view : (cs : List Constraint) (e : Events.Event) → Agree b cs e → (i : ℕ) → i < b .positions
-      → viewConstraint (constraintAt b cs i) ≡ Events.constraintOf (symbolOf (viewBook b) (i + 1)) e
-  constraint-view cs e m i h =
+      → viewConstraint (constraintAt b cs i) ≡ Events.constraintOf (symbolOf (viewFrom m b) (i + 1)) e
+  constraint-view cs e a i h =
       let y = symbolAt b i in
       let s = viewBook b .symbols in
       let z : i + 1 - 1 ≡ i = omega arith in
       let at : getD (viewBook b .occurrences) (i + 1 - 1) 0 ≡ y = rw z (symbol-view i h) in
       ap viewConstraint (sym (getD-take (b .symbols) cs y noConstraint (symbol-below i h)))
-      ∙ maps-at viewConstraint (λ s. Events.constraintOf s e) (take (b .symbols) cs) s y noConstraint noSymbol m (symbol-declared i h)
+      ∙ maps-at viewConstraint (λ s. Events.constraintOf s e) (take (b .symbols) cs) s y noConstraint noSymbol a (symbol-declared i h)
       ∙ ap (λ k. Events.constraintOf (getD s k noSymbol) e) (sym at)
 
   sources-view : (held : List ℕ) (e : Events.Event) (q : ℕ)
-      → sourcesOf b n masks held q ≡ ending (viewBook b) (take n at) (take n (disjunctsIn held)) e q
+      → sourcesOf b m n masks held q ≡ ending (viewFrom m b) (take n at) (take n (disjunctsIn held)) e q
   unfolding viewBook
   sources-view held e q =
-      ap (λ ms. cond (bit q (b .ends)) (withStart (bit q (b .begins)) (pick (λ x. bit q x) ms (take n (disjunctsIn held)))) []) (k .follows)
+      ap (λ ms. cond (bit q (b .ends)) (withStart (bit q m) (pick (λ x. bit q x) ms (take n (disjunctsIn held)))) []) (k .follows)
 
-  -- one turn of each loop, and the end
-  module _ (held : List ℕ) (e : Events.Event) (i : ℕ) where
-    pub rows-turn : (cs : List Constraint) → Agree b cs e → (g : Grown Events.Valuation) → i < b .positions
-        → rowsAhead b n at held e i g ≡ rowsAhead b n at held e (i + 1) (rowsWith (viewConstraint (constraintAt b cs i)) (sourcesOf b n masks held (i + 1)) g)
-    unfolding rowsAhead
-    rows-turn cs m g h =
-        from-next (viewBook b) (take n at) (take n (disjunctsIn held)) e i g (omega (arith, positions-length))
-        ∙ ap (rowsAhead b n at held e (i + 1)) (sym (ap₂ (λ c l. rowsWith c l g) (constraint-view cs e m i h) (sources-view held e (i + 1))))
+  -- one turn of the loop, and the end
+  module _ (held : List ℕ) (e : Events.Event) (i : ℕ) (y : Yield) where
+    pub yield-turn : (cs : List Constraint) → Agree b cs e → i < b .positions
+        → yieldAhead b m n at held e i y
+        ≡ yieldAhead b m n at held e (i + 1)
+        (yieldWith (b .variables) (viewConstraint (constraintAt b cs i)) (sourcesOf b m n masks held (i + 1)) y)
+    unfolding yieldAhead
+    yield-turn cs a h =
+        from-next (viewFrom m b) (take n at) (take n (disjunctsIn held)) e (b .variables) i y (omega (arith, positions-length))
+        ∙ ap (yieldAhead b m n at held e (i + 1))
+        (sym (ap₂ (λ c l. yieldWith (b .variables) c l y) (constraint-view cs e a i h) (sources-view held e (i + 1))))
 
-    pub rows-last : (g : Grown Events.Valuation) → b .positions ≤ i → rowsAhead b n at held e i g ≡ g
-    unfolding rowsAhead
-    rows-last g h = from-none (viewBook b) (take n at) (take n (disjunctsIn held)) e i g (omega (arith, positions-length))
-
-    pub free-turn : (cs : List Constraint) → Agree b cs e → i < b .positions
-        → freeAhead b n at held e i
-        ≡ (freeIn (b .variables) (viewConstraint (constraintAt b cs i)) (sourcesOf b n masks held (i + 1)) || freeAhead b n at held e (i + 1))
-    unfolding freeAhead
-    free-turn cs m h =
-        free-next (viewBook b) (take n at) (take n (disjunctsIn held)) e (b .variables) i (omega (arith, positions-length))
-        ∙ ap (λ t. t || freeAhead b n at held e (i + 1)) (sym (ap₂ (freeIn (b .variables)) (constraint-view cs e m i h) (sources-view held e (i + 1))))
-
-    pub free-last : b .positions ≤ i → freeAhead b n at held e i ≡ false
-    unfolding freeAhead
-    free-last h = free-end (viewBook b) (take n at) (take n (disjunctsIn held)) e (b .variables) i (omega (arith, positions-length))
+    pub yield-last : b .positions ≤ i → yieldAhead b m n at held e i y ≡ y
+    unfolding yieldAhead
+    yield-last h = from-none (viewFrom m b) (take n at) (take n (disjunctsIn held)) e (b .variables) i y (omega (arith, positions-length))

@@ -1,7 +1,6 @@
--- One turn of each loop: the held disjuncts that are still ahead, and what a count with the words says after one more was put. For
--- the proofs of the functions.
-use mathlib.Core.Path.{_≡_, refl, sym, ap, _∙_}
-use mathlib.Core.Bool.{Bool, true, false, cond, _||_}
+-- One turn of the loop over the held disjuncts: those whose mask has a position, from a number on. For the proofs of the functions.
+use mathlib.Core.Path.{_≡_, refl, ap, _∙_}
+use mathlib.Core.Bool.{Bool, true, false, cond}
 use mathlib.Core.List.{List, [], _∷_, _++_}
 use Prim.Native.Nat.{ℕ, _+_, _≤_, _<_}
 use native.Mathlib.Numerals.{add-one}
@@ -9,18 +8,11 @@ use native.Mathlib.Omega.{arith}
 use lib.ListN.{length, take, drop, getD}
 use lib.Seq.{length-take-le, getD-take}
 use Rattle.laws.specs.Bits.{bit}
-use Rattle.laws.specs.Order.{ascending}
-use Rattle.laws.specs.Sets.{Grown, grown}
 use Rattle.laws.proofs.Bits.{bit-zero}
 use Rattle.laws.proofs.Lists.{taken-none}
-use Rattle.meaning.specs.Events.{Constraint, Valuation}
-use Rattle.meaning.specs.Labels.{Disjunct, freeDisjunct}
-use Rattle.meaning.specs.Rows.{rowLimit, compareValuations}
-use Rattle.bounded.specs.Bounded.{pick, withStart, rowsWith, freeIn}
+use Rattle.meaning.specs.Labels.{Disjunct}
+use Rattle.bounded.specs.Bounded.{pick, withStart}
 use Rattle.bounded.proofs.Picks.{pick-next}
-use Rattle.bounded.proofs.RowSets.{rows-append, rows-full, rows-ascending, free-append}
-use Rattle.rows.specs.Valuations.{valuationsIn, rowsGrown}
-use Rattle.rows.proofs.Valuations.{in-grown, in-full}
 
 module _ (q : ℕ) (masks : List ℕ) (l : List Disjunct) (n : ℕ) where
   -- the disjuncts from number i on whose mask has position q
@@ -43,42 +35,8 @@ module _ (q : ℕ) (masks : List ℕ) (l : List Disjunct) (n : ℕ) where
       pick-next (λ x. bit q x) (bit-zero q) i (take n masks) (take n l) [] (omega (arith, length-take-le n l k))
       ∙ rw (getD-take n masks i 0 j, getD-take n l i [] j, e, add-one i)
 
--- a count within the limit of rows that ascend
-pub record Sorted (k : ℕ) (w : List ℕ) : Type 0 where
-  pub few : k ≤ rowLimit
-  pub order : ascending compareValuations (take k (valuationsIn w)) ≡ true
-
--- the rows so far
-abbrev pub listed : ℕ → List ℕ → Grown Valuation
-listed k w = grown (take k (valuationsIn w))
-
-pub sorted-at : {j k : ℕ} {w v : List ℕ} → k ≡ j → v ≡ w → Sorted j w → Sorted k v
-sorted-at e f s = rw (e, f) s
-
--- the rows of D put among those so far: a count within the limit, or no room; those of l are still to be put
-module _ (c : Constraint) (D : List Disjunct) {k : ℕ} {w : List ℕ} (s : Sorted k w) (r : ℕ) (v : List ℕ)
-    (e : rowsGrown r v ≡ rowsWith c D (listed k w)) where
-  pub sorted-more : r ≤ rowLimit → Sorted r v
-  sorted-more h =
-      record { few = h; order = rows-ascending c D (take k (valuationsIn w)) (take r (valuationsIn v)) (s .order) (sym e ∙ in-grown r v h) }
-
-  pub more : r ≤ rowLimit → (l : List Disjunct) → rowsWith c l (listed r v) ≡ rowsWith c (D ++ l) (listed k w)
-  more h l = ap (rowsWith c l) (sym (in-grown r v h) ∙ e) ∙ sym (rows-append c D l (listed k w))
-
-  pub over : rowLimit < r → (l : List Disjunct) → rowsGrown 2065 v ≡ rowsWith c (D ++ l) (listed k w)
-  over h l =
-      in-full 2065 v (omega arith) ∙ sym (rows-full c l) ∙ ap (rowsWith c l) (sym (in-full r v h) ∙ e) ∙ sym (rows-append c D l (listed k w))
-
--- the sources of a position that begins, and of one that does not
-pub starts : {t : Bool} → t ≡ true → (l : List Disjunct) → (freeDisjunct 4 ∷ []) ++ l ≡ withStart t l
+-- the start's label stands before the others
+pub start-before : (t : Bool) (l : List Disjunct) → withStart t [] ++ l ≡ withStart t l
 unfolding withStart
-starts h l = rw h
-
-pub starts-not : {t : Bool} → t ≡ false → (l : List Disjunct) → l ≡ withStart t l
-unfolding withStart
-starts-not h l = rw h
-
--- the test whether a variable is left free, by the first disjunct
-pub free-more : (n : ℕ) (c : Constraint) (D : Disjunct) {t : Bool} → freeIn n c (D ∷ []) ≡ t → (l : List Disjunct)
-    → freeIn n c (D ∷ l) ≡ (t || freeIn n c l)
-free-more n c D e l = free-append n c (D ∷ []) l ∙ ap (λ t. t || freeIn n c l) e
+start-before true l = refl
+start-before false l = refl

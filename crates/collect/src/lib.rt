@@ -1,5 +1,5 @@
-// The rows of an event collected from the step sets of its ending positions. For the event call; the test for a row that would leave a
-// variable free is in `unbound`.
+// The rows of an event collected from the sources of its ending positions, and on the way the test for a row that would leave a variable free.
+// For `matcher`.
 use book::Book;
 use constraint::Constraints;
 use demand::Constraint;
@@ -8,83 +8,125 @@ use packed::CAPACITY;
 use packed::Words;
 use rows::NO_ROOM;
 use rows::ROWS;
+use rows::Valuation;
 ghost use mathlib.Core.Path.{_≡_};
-ghost use mathlib.Core.Bool.{true, cond};
+ghost use mathlib.Core.Bool.{true, cond, _||_};
 ghost use mathlib.Core.List.{[], _∷_, map};
 ghost use Prim.Native.Nat.{ℕ, _≤_, _<_};
 ghost use lib.ListN.{take, getD};
 ghost use Rattle.laws.specs.Bits.{bit};
-ghost use Rattle.laws.specs.Order.{ascending};
-ghost use Rattle.laws.specs.Sets.{Grown, within};
+ghost use Rattle.laws.specs.Sets.{within, grow};
 ghost use Rattle.pattern.specs.Positions.{occurrenceLimit};
 ghost use Rattle.meaning.specs.Events.{Event, constraintOf};
-ghost use Rattle.meaning.specs.Book.{soundBook, followers};
+ghost use Rattle.meaning.specs.Book.{startingAt, soundBook, followers};
 ghost use Rattle.meaning.specs.Room.{heldLimit};
 ghost use Rattle.meaning.specs.Rows.{rowLimit, compareValuations, rows};
+ghost use Rattle.meaning.specs.Limits.{variableLimit};
 ghost use Rattle.meaning.specs.Wide.{wideBook};
-ghost use Rattle.bounded.specs.Bounded.{pick, withStart, rowsWith};
+ghost use Rattle.bounded.specs.Bounded.{pick, withStart, freeRows, rowsAscend, yieldWith};
 ghost use Rattle.demand.specs.Constraints.{viewConstraint, noConstraint, Ready};
 ghost use Rattle.disjunct.specs.Disjuncts.{viewDisjunct};
 ghost use Rattle.packed.specs.Sets.{disjunctsIn};
 ghost use Rattle.book.specs.Books.{viewBook};
 ghost use Rattle.book.specs.Counts.{Counts};
 ghost use Rattle.packed.specs.Held.{heldIn};
-ghost use Rattle.rows.specs.Valuations.{valuationsIn, rowsGrown};
+ghost use Rattle.rows.specs.Valuations.{rowsGrown};
+ghost use Rattle.collect.specs.Yields.{yieldIn};
 
-// The row that d gives with c, put among the first m.
-fn add_row(out: &mut rows::Words, m: usize, d: Disjunct, c: Constraint) -> usize
-    requires { ⌜ (m ≤ rowLimit) × Ready c × (ascending compareValuations (take m (valuationsIn (now out))) ≡ true) ⌝ }
-    ensures { λ r. ⌜ rowsGrown r (now (out .exit)) ≡ rowsWith (viewConstraint c) (viewDisjunct d ∷ [])
-        (Grown.grown (take m (valuationsIn (now (out .entry))))) ⌝ }
+// What is collected so far: how many rows stand in the lent words, or NO_ROOM; and whether a meeting left a variable free.
+pub struct Collected {
+    pub rows: usize,
+    pub free: bool,
+}
+
+fn either(a: bool, b: bool) -> bool
+    ensures { λ r. ⌜ r ≡ (a || b) ⌝ }
+{
+    a || b
+}
+
+// The row x put among the first m. Once there is no room there is none for good.
+fn insert_row(out: &mut rows::Words, m: usize, x: Valuation) -> usize
+    requires { ⌜ rowsAscend (rowsGrown m (now out)) ≡ true ⌝ }
+    ensures { λ r. ⌜ rowsGrown r (now (out .exit)) ≡ grow compareValuations rowLimit x (rowsGrown m (now (out .entry))) ⌝ }
+{
+    if ROWS < m {
+        return NO_ROOM;
+    }
+    rows::insert_row(out, m, x)
+}
+
+// The meeting of d with c, where the first v variables count.
+fn add_met(
+    out: &mut rows::Words,
+    found: Collected,
+    d: Disjunct,
+    c: Constraint,
+    v: usize,
+) -> Collected
+    requires { ⌜ (v ≤ variableLimit) × Ready c × (rowsAscend (rowsGrown (found .rows) (now out)) ≡ true) ⌝ }
+    ensures { λ r. ⌜ yieldIn r (now (out .exit)) ≡ yieldWith v (viewConstraint c) (viewDisjunct d ∷ []) (yieldIn found (now (out .entry))) ⌝ }
 {
     let x = d.meet(c);
     if x.ok {
         let e = x.disjunct;
-        return rows::insert_row(out, m, e.values());
+        let free = either(found.free, e.leaves_free(v));
+        let n = insert_row(out, found.rows, e.values());
+        return Collected {
+            rows: n,
+            free: free,
+        };
     }
-    m
+    found
 }
 
-// The rows of one ending position q put among the first m: how many there are then, or 2,065.
-fn rows_at(
+// The same for the start's label, if the position begins.
+fn add_start(
+    out: &mut rows::Words,
+    found: Collected,
+    begins: bool,
+    c: Constraint,
+    v: usize,
+) -> Collected
+    requires { ⌜ (v ≤ variableLimit) × Ready c × (rowsAscend (rowsGrown (found .rows) (now out)) ≡ true) ⌝ }
+    ensures { λ r. ⌜ yieldIn r (now (out .exit)) ≡ yieldWith v (viewConstraint c) (withStart begins []) (yieldIn found (now (out .entry))) ⌝ }
+{
+    if begins {
+        return add_met(out, found, Disjunct::free(), c, v);
+    }
+    found
+}
+
+// The same for the held disjuncts whose mask has q.
+fn add_sources(
     held: &Words,
     masks: &[u32; CAPACITY],
     n: usize,
     q: usize,
-    begins: bool,
     c: Constraint,
+    v: usize,
     out: &mut rows::Words,
-    m: usize,
-) -> usize
-    requires { ⌜ (n ≤ heldLimit) × (q ≤ occurrenceLimit) × (m ≤ rowLimit) × Ready c
-        × (ascending compareValuations (take m (valuationsIn (now out))) ≡ true) ⌝ }
-    ensures { λ r. ⌜ rowsGrown r (now (out .exit)) ≡ rowsWith (viewConstraint c)
-        (withStart begins (pick (λ x. bit q x) (take n (now (masks .entry))) (take n (disjunctsIn (now (held .entry))))))
-        (Grown.grown (take m (valuationsIn (now (out .entry))))) ⌝ }
+    found: Collected,
+) -> Collected
+    requires { ⌜ (n ≤ heldLimit) × (q ≤ occurrenceLimit) × (v ≤ variableLimit) × Ready c
+        × (rowsAscend (rowsGrown (found .rows) (now out)) ≡ true) ⌝ }
+    ensures { λ r. ⌜ yieldIn r (now (out .exit)) ≡ yieldWith v (viewConstraint c)
+        (pick (λ x. bit q x) (take n (now (masks .entry))) (take n (disjunctsIn (now (held .entry))))) (yieldIn found (now (out .entry))) ⌝ }
 {
-    let mut k = m;
-    if begins {
-        k = add_row(out, k, Disjunct::free(), c);
-        if ROWS < k {
-            return NO_ROOM;
-        }
-    }
+    let mut r = found;
     let mut i: usize = 0;
     while i < n {
         if step::has(masks[i], q) {
             let d = packed::get(held, i);
-            k = add_row(out, k, d, c);
-            if ROWS < k {
-                return NO_ROOM;
-            }
+            r = add_met(out, r, d, c, v);
         }
         i += 1;
     }
-    k
+    r
 }
 
-// The same for any position q: none where it does not end a word. A false constraint gives none either.
-fn rows_of(
+// The same for all sources of any position q: nothing where it does not end a word. A false constraint gives nothing either.
+fn add_position(
     held: &Words,
     masks: &[u32; CAPACITY],
     n: usize,
@@ -92,48 +134,64 @@ fn rows_of(
     begins: u32,
     ends: u32,
     c: Constraint,
+    v: usize,
     out: &mut rows::Words,
-    m: usize,
-) -> usize
-    requires { ⌜ (n ≤ heldLimit) × (q ≤ occurrenceLimit) × (m ≤ rowLimit) × Ready c
-        × (ascending compareValuations (take m (valuationsIn (now out))) ≡ true) ⌝ }
-    ensures { λ r. ⌜ rowsGrown r (now (out .exit)) ≡ rowsWith (viewConstraint c)
+    found: Collected,
+) -> Collected
+    requires { ⌜ (n ≤ heldLimit) × (q ≤ occurrenceLimit) × (v ≤ variableLimit) × Ready c
+        × (rowsAscend (rowsGrown (found .rows) (now out)) ≡ true) ⌝ }
+    ensures { λ r. ⌜ yieldIn r (now (out .exit)) ≡ yieldWith v (viewConstraint c)
         (cond (bit q ends) (withStart (bit q begins) (pick (λ x. bit q x) (take n (now (masks .entry))) (take n (disjunctsIn (now (held .entry)))))) [])
-        (Grown.grown (take m (valuationsIn (now (out .entry))))) ⌝ }
+        (yieldIn found (now (out .entry))) ⌝ }
 {
     if c.ok && step::has(ends, q) {
-        let starts = step::has(begins, q);
-        return rows_at(held, masks, n, q, starts, c, out, m);
+        let started = add_start(out, found, step::has(begins, q), c, v);
+        return add_sources(held, masks, n, q, c, v, out, started);
     }
-    m
+    found
 }
 
-// The rows of an event, from the constraints of the book's symbols: how many, or 2,065.
+// The rows of an event whose matches begin at the positions of `begins`, from the constraints of the book's symbols: how many, or NO_ROOM; and
+// "a row that would leave a variable free", disjunct by disjunct.
 pub fn collect(
     book: Book,
+    begins: u32,
     cs: Constraints,
     held: &Words,
     at: &[u32; CAPACITY],
     masks: &[u32; CAPACITY],
     n: usize,
     out: &mut rows::Words,
-) -> usize
-    requires { ⌜ (n ≤ heldLimit) × Counts book × (soundBook (viewBook book) ≡ true)
+) -> Collected
+    requires { ⌜ (n ≤ heldLimit) × Counts book × (soundBook (startingAt begins (viewBook book)) ≡ true)
         × (take n (now masks) ≡ map (followers (viewBook book)) (take n (now at))) × ((i : ℕ) → i < book .symbols → Ready (getD cs i noConstraint)) ⌝ }
     ensures { λ r. ⌜ ((e : Event) → map viewConstraint (take (book .symbols) cs) ≡ map (λ s. constraintOf s e) (viewBook book .symbols)
-        → rowsGrown r (now (out .exit)) ≡ within rowLimit (rows (wideBook (viewBook book)) (heldIn n (now (at .entry)) (now (held .entry))) e)) ⌝ }
+        → (rowsGrown (r .rows) (now (out .exit))
+        ≡ within rowLimit (rows (wideBook (startingAt begins (viewBook book))) (heldIn n (now (at .entry)) (now (held .entry))) e))
+        × (r .free ≡ freeRows (book .variables) (wideBook (startingAt begins (viewBook book))) (heldIn n (now (at .entry)) (now (held .entry))) e)) ⌝ }
 {
     let positions = book.positions;
-    let mut m: usize = 0;
+    let mut r = Collected {
+        rows: 0,
+        free: false,
+    };
     let mut i: usize = 0;
     while i < positions {
         let y = book.occurrences[i] as usize;
         let c = cs[y];
-        m = rows_of(held, masks, n, i + 1, book.begins, book.ends, c, out, m);
-        if ROWS < m {
-            return NO_ROOM;
-        }
+        r = add_position(
+            held,
+            masks,
+            n,
+            i + 1,
+            begins,
+            book.ends,
+            c,
+            book.variables,
+            out,
+            r,
+        );
         i += 1;
     }
-    m
+    r
 }

@@ -17,7 +17,7 @@ use Rattle.bounded.specs.Bounded.{appended}
 use Rattle.packed.specs.Sets.{disjunctsIn, grownIn}
 use Rattle.packed.specs.Held.{heldIn, heldGrown}
 use Rattle.packed.proofs.Sets.{in-grown, in-full}
-use Rattle.packed.proofs.Held.{taken-length, held-length, held-grown, held-full}
+use Rattle.packed.proofs.Held.{taken-length, in-held, held-grown, held-full}
 
 -- the first n positions, then i times p: none of them written yet, and one more written
 pub positions-none : (at : List ℕ) (n p : ℕ) → take (n + 0) at ≡ take n at ++ replicate 0 p
@@ -35,7 +35,7 @@ positions-more l at n i p h e =
 module _ (p m n : ℕ) (v at w : List ℕ) (few : m ≤ 128) (fits : n ≤ 128) (long : length at ≡ 128) where
   appended-length : length (heldIn n at w ++ map (heldAt p) (take m (disjunctsIn v))) ≡ n + m
   appended-length =
-      length-append (heldIn n at w) _ ∙ ap₂ _+_ (held-length n at w fits long) (length-map (take m (disjunctsIn v)) (heldAt p) ∙ taken-length v m few)
+      length-append (heldIn n at w) _ ∙ ap₂ _+_ (in-held n at w fits long) (length-map (take m (disjunctsIn v)) (heldAt p) ∙ taken-length v m few)
 
   -- the test against the limit decides
   appended-tested : (t : Bool) → leb (n + m) heldLimit ≡ t

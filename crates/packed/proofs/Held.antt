@@ -22,9 +22,9 @@ pub taken-length : (w : List ℕ) (n : ℕ) → n ≤ 128 → length (take n (di
 taken-length w n h = length-take-le n (disjunctsIn w) (omega (arith, in-length w))
 
 module _ (n : ℕ) (at w : List ℕ) where
-  pub held-length : n ≤ 128 → length at ≡ 128 → length (heldIn n at w) ≡ n
+  pub in-held : n ≤ 128 → length at ≡ 128 → length (heldIn n at w) ≡ n
   unfolding heldIn
-  held-length h k =
+  in-held h k =
       let a = taken-length w n h in
       held-of-length (take n at) (take n (disjunctsIn w)) (length-take-le n at (omega arith) ∙ sym a) ∙ a
 

@@ -1,98 +1,71 @@
--- What a sound book and a sound state say, fact by fact; and the answers of an event call in their order: the first check that fails.
--- For the functions of this crate.
-use mathlib.Core.Path.{_≡_, refl, sym, ap, _∙_}
-use mathlib.Core.Bool.{Bool, true, false, cond, not, _&&_}
+-- The answer of the pure step by the checks in their order: what the first that fails answers, and what is left of them once book, state and record
+-- have passed. For the functions of this crate, and for `watch`.
+use mathlib.Core.Path.{_≡_, sym, ap, subst, _∙_}
+use mathlib.Core.Bool.{true, false, false≢true}
 use mathlib.Core.List.{List}
 use Prim.Native.Nat.{ℕ, _≤_}
 use borrow.Author.Tests.{eq-eqb, ne-eqb}
-use lib.Dec.{eqb, leb}
-use lib.ListN.{take}
-use Rattle.laws.specs.Lists.{all}
+use Rattle.laws.specs.Checks.{Check, firstFailing}
 use Rattle.meaning.specs.Events as Events
-use Rattle.meaning.specs.Book.{soundParameter, soundBook}
-use Rattle.meaning.specs.Sound.{soundHeld, eventLimit}
-use Rattle.table.specs.Tables.{viewSymbol}
+use Rattle.meaning.specs.Sound.{eventLimit}
 use Rattle.book.specs.declared.Book.{Book}
-use Rattle.book.specs.Books.{viewBook}
-use Rattle.book.specs.Counts.{Counts}
 use Rattle.state.specs.declared.State.{State}
-use Rattle.state.specs.States.{heldFirst}
 use Rattle.sound.specs.Soundness.{bookSound, stateSound}
-use Rattle.sound.proofs.Soundness.{book-counts, book-view, book-symbols, state-count, state-number, state-view}
 use Rattle.record.specs.declared.Decoded.{Decoded}
 use Rattle.record.specs.Records.{isRecord, eventIn, eventOf, viewEvent, decoded}
 use Rattle.record.proofs.Records.{decoded-ok, decoded-event, view-event, event-count, event-few}
-use Rattle.laws.specs.Checks.{firstFailing}
-use Rattle.calls.specs.Answers.{numberOf}
-use Rattle.calls.specs.Calls.{leavesFreeBy, roomBy, unsound, outOfForm, tooMany, noRoom, decisions}
-use Rattle.transition.specs.Moves.{judgedNumber}
-use Rattle.calls.specs.declared.EventAnswer.the-variants.{Accepted, Unsound, TooMany, NoRoom}
+use Rattle.calls.specs.declared.EventAnswer.{EventAnswer}
+use Rattle.calls.specs.declared.EventAnswer.the-variants.{Accepted, Unsound, OutOfForm, TooMany, NoRoom}
+use Rattle.calls.specs.Calls.{isAccepted, leavesFreeBy, roomBy, unsound, outOfForm, tooMany, noRoom, decisions}
+use Rattle.transition.specs.declared.Stepped.{Stepped}
+use Rattle.transition.specs.Moves.{judgements, Decided}
 
--- a sound book
-pub record BookSound (b : Book) : Type 0 where
-  pub counts : Counts b
-  pub variables : b .variables ≤ 4
-  pub view : soundBook (viewBook b) ≡ true
-  pub symbols : all (λ y. leb (y .count) 4 && all (soundParameter 4) (viewSymbol y .parameters)) (take (b .symbols) (b .table)) ≡ true
+-- refused: the answer of the first check that fails, which is none of acceptance
+pub refused-by : (b : Book) (s : State) (e : Events.Event) (checks : List (Check EventAnswer)) {a : EventAnswer} → firstFailing Accepted checks ≡ a
+    → isAccepted a ≡ false → {r : Stepped} → (r .answer ≡ a) × (r .accepted ≡ false) → {words : List ℕ} → Decided b s e checks r words
+refused-by b s e checks f n q =
+    record {
+      first = q .0 ∙ sym f;
+      flag = q .1 ∙ sym (ap isAccepted (q .0) ∙ n);
+      moved = λ z. absurd (false≢true (sym (q .1) ∙ z));
+    }
 
-pub book-facts : (b : Book) → bookSound b ≡ true → BookSound b
-book-facts b h =
-    let c = book-counts b h in
-    record { counts = record { positions = c .2; symbols = c .1 }; variables = c .0; view = book-view b h; symbols = book-symbols b h }
-
--- a state that is sound with a book
-pub record StateSound (b : Book) (s : State) : Type 0 where
-  pub count : s .count ≤ 128
-  pub number : s .number ≤ eventLimit
-  pub held : soundHeld (viewBook b) (heldFirst (b .variables) s) ≡ true
-
-pub state-facts : (b : Book) (s : State) → stateSound b s ≡ true → StateSound b s
-state-facts b s h = record { count = state-count b s h; number = state-number b s h; held = state-view b s h }
-
--- the number of the answer of a sound book in a sound state
+-- the checks of a sound book in a sound state
 module _ (b : Book) (s : State) (e : Events.Event) where
-  pub judged-free : leavesFreeBy b s e ≡ true → judgedNumber b s e ≡ 9
-  unfolding judgedNumber
+  pub judged-free : leavesFreeBy b s e ≡ true → firstFailing Accepted (judgements b s e) ≡ Unsound
   judged-free h = rw h
 
-  pub judged-many : leavesFreeBy b s e ≡ false → s .number ≡ eventLimit → judgedNumber b s e ≡ 11
-  unfolding judgedNumber
-  judged-many h k = rw (h, eq-eqb (s .number) eventLimit k)
+  module _ (all-bound : leavesFreeBy b s e ≡ false) where
+    pub judged-many : s .number ≡ eventLimit → firstFailing Accepted (judgements b s e) ≡ TooMany
+    judged-many h = rw (all-bound, eq-eqb (s .number) eventLimit h)
 
-  pub judged-room : leavesFreeBy b s e ≡ false → (s .number ≡ eventLimit → ⊥) → judgedNumber b s e ≡ cond (roomBy b s e) 0 12
-  unfolding judgedNumber
-  judged-room h k = rw (h, ne-eqb (s .number) eventLimit k)
+    module _ (few : s .number ≡ eventLimit → ⊥) where
+      pub judged-none : roomBy b s e ≡ false → firstFailing Accepted (judgements b s e) ≡ NoRoom
+      judged-none h = rw (all-bound, ne-eqb (s .number) eventLimit few, h)
 
--- the number of the answer by the checks that do not look at what is lent for the rows
-abbrev pub stepNumber : Book → State → List ℕ → ℕ
-stepNumber b s r = numberOf (firstFailing Accepted (decisions b s r))
+      pub judged-passed : roomBy b s e ≡ true → firstFailing Accepted (judgements b s e) ≡ Accepted
+      judged-passed h = rw (all-bound, ne-eqb (s .number) eventLimit few, h)
 
+-- the checks that do not look at what is lent for the rows
 module _ (b : Book) (s : State) (r : List ℕ) where
-  number-unsound : (bookSound b && stateSound b s) ≡ false → stepNumber b s r ≡ 9
+  pub first-book : bookSound b ≡ false → firstFailing Accepted (decisions b s r) ≡ Unsound
   unfolding unsound
-  number-unsound h = rw h
+  first-book h = rw h
 
-  pub number-book : bookSound b ≡ false → stepNumber b s r ≡ 9
-  number-book h = number-unsound (rw h)
+  module _ (sb : bookSound b ≡ true) where
+    pub first-state : stateSound b s ≡ false → firstFailing Accepted (decisions b s r) ≡ Unsound
+    unfolding unsound
+    first-state h = rw (sb, h)
 
-  pub number-state : bookSound b ≡ true → stateSound b s ≡ false → stepNumber b s r ≡ 9
-  number-state h k = number-unsound (rw (h, k))
+    module _ (ss : stateSound b s ≡ true) where
+      pub first-form : isRecord r ≡ false → firstFailing Accepted (decisions b s r) ≡ OutOfForm
+      unfolding unsound outOfForm
+      first-form h = rw (sb, ss, h)
 
-  module _ (sb : bookSound b ≡ true) (ss : stateSound b s ≡ true) where
-    pub number-form : isRecord r ≡ false → stepNumber b s r ≡ 10
-    unfolding unsound outOfForm
-    number-form h = rw (sb, ss, h)
-
-    pub number-judged : isRecord r ≡ true → stepNumber b s r ≡ judgedNumber b s (eventIn r)
-    unfolding unsound outOfForm tooMany noRoom judgedNumber
-    number-judged h = rw (sb, ss, h) (go (leavesFreeBy b s (eventIn r)) (eqb (s .number) eventLimit) (roomBy b s (eventIn r)))
-      where
-        go : (f m t : Bool)
-            → numberOf (cond f Unsound (cond m TooMany (cond (not t) NoRoom Accepted))) ≡ cond f 9 (cond m 11 (cond t 0 12))
-        go true m t = refl
-        go false true t = refl
-        go false false true = refl
-        go false false false = refl
+      -- those that are left
+      pub first-judged : isRecord r ≡ true → firstFailing Accepted (decisions b s r) ≡ firstFailing Accepted (judgements b s (eventIn r))
+      unfolding unsound outOfForm tooMany noRoom
+      first-judged h = rw (sb, ss, h)
 
 -- what is decoded of a record
 module _ (r : List ℕ) (d : Decoded) (e : d ≡ decoded r) where
@@ -100,7 +73,7 @@ module _ (r : List ℕ) (d : Decoded) (e : d ≡ decoded r) where
   decoded-not h = sym (decoded-ok r) ∙ sym (ap (λ x. x .ok) e) ∙ h
 
   module _ (h : d .ok ≡ true) where
-    pub decoded-record : isRecord r ≡ true
+    decoded-record : isRecord r ≡ true
     decoded-record = sym (decoded-ok r) ∙ sym (ap (λ x. x .ok) e) ∙ h
 
     decoded-same : d .event ≡ eventOf (eventIn r)
@@ -109,5 +82,12 @@ module _ (r : List ℕ) (d : Decoded) (e : d ≡ decoded r) where
     pub decoded-few : d .event .count ≤ 4
     decoded-few = rw (decoded-same, event-count (eventIn r)) (event-few r decoded-record)
 
-    pub decoded-view : viewEvent (d .event) ≡ eventIn r
+    decoded-view : viewEvent (d .event) ≡ eventIn r
     decoded-view = ap viewEvent decoded-same ∙ view-event (eventIn r)
+
+    -- what is decided of the event that is decoded is decided of the record
+    pub decided-record : (b : Book) (s : State) → bookSound b ≡ true → stateSound b s ≡ true → {x : Stepped} {words : List ℕ}
+        → Decided b s (viewEvent (d .event)) (judgements b s (viewEvent (d .event))) x words → Decided b s (eventIn r) (decisions b s r) x words
+    decided-record b s sb ss {x} {words} g =
+        let k = subst (λ v. Decided b s v (judgements b s v) x words) decoded-view g in
+        record { first = k .first ∙ sym (first-judged b s r sb ss decoded-record); flag = k .flag; moved = k .moved }

@@ -1,13 +1,13 @@
 -- What the event call hands back and leaves in the buffer, by the three ways in which it ends: refused before the rows are placed,
 -- refused for want of space, accepted. For `event`.
 use mathlib.Core.Path.{_≡_, refl, sym, ap, ap₂, _∙_}
-use mathlib.Core.Bool.{Bool, true, false, cond}
+use mathlib.Core.Bool.{Bool, true, false, cond, false≢true}
 use mathlib.Core.List.{List, List·Memᴰ}
 use Prim.Native.Nat.{ℕ, suc, _+_, _*_, _≤_}
-use native.Mathlib.Omega.{arith}
 use borrow.Author.Tests.{leb-true, leb-false, lt-ltb, le-ltb}
 use lib.Dec.{leb}
 use lib.ListN.{length, take}
+use Rattle.laws.specs.Checks.{firstFailing}
 use Rattle.laws.specs.Lists.{gather}
 use Rattle.laws.specs.Parts.{splice}
 use Rattle.laws.proofs.Lists.{mem-map, mem-take}
@@ -21,50 +21,57 @@ use Rattle.book.specs.declared.Book.{Book}
 use Rattle.state.specs.declared.State.{State}
 use Rattle.state.specs.States.{stateOf, viewState}
 use Rattle.sound.specs.Soundness.{bookSound}
+use Rattle.sound.proofs.Soundness.{book-counts}
 use Rattle.rows.specs.Valuations.{valuationsIn}
 use Rattle.rows.proofs.Valuations as Words
 use Rattle.row.specs.RowBytes.{rowSize, rowBytes}
 use Rattle.row.proofs.RowBytes.{row-wide}
 use Rattle.tally.specs.declared.Tally.{Tally}
 use Rattle.tally.specs.Tallies.{tallied}
-use Rattle.calls.specs.Answers.{numberOf}
-use Rattle.answers.specs.Inner.{answerOf}
-use Rattle.calls.specs.Calls.{isAccepted, rowsBy, stateBy, unsound, outOfForm, tooMany, noRoom, noSpace, answerTo, taken, bufferAfter}
-use Rattle.transition.specs.Moves.{Moved}
+use Rattle.calls.specs.Calls.{isAccepted, rowsBy, stateBy, unsound, outOfForm, tooMany, noRoom, noSpace, decisions, answerTo, taken, bufferAfter}
+use Rattle.transition.specs.declared.Stepped.{Stepped}
+use Rattle.transition.specs.Moves.{Moved, Decided}
 use Rattle.calls.specs.declared.EventAnswer.{EventAnswer}
 use Rattle.calls.specs.declared.EventAnswer.the-variants.{Accepted, Unsound, OutOfForm, TooMany, NoRoom, NoSpace}
 use Rattle.calls.specs.declared.Taken.{Taken}
-use Rattle.transition.proofs.Checks.{stepNumber, number-book, BookSound, book-facts}
+use Rattle.transition.proofs.Checks.{first-book}
 
 -- the answer of the checks 9 to 12, and a where none of them fails
 abbrev four : (p q m n : Bool) → EventAnswer → EventAnswer
 four p q m n a = cond p Unsound (cond q OutOfForm (cond m TooMany (cond n NoRoom a)))
 
--- one of the first four fails: the fifth is not looked at, and the answer is told by its number
-four-refused : (p q m n : Bool) (a : EventAnswer) → (numberOf (four p q m n Accepted) ≡ 0 → ⊥)
-    → (four p q m n a ≡ answerOf (numberOf (four p q m n Accepted))) × (isAccepted (four p q m n a) ≡ false)
-unfolding answerOf
-four-refused true q m n a h = (refl, refl)
-four-refused false true m n a h = (refl, refl)
-four-refused false false true n a h = (refl, refl)
-four-refused false false false true a h = (refl, refl)
-four-refused false false false false a h = absurd (h refl)
+-- one of the first four fails: the fifth is not looked at
+four-refused : (p q m n : Bool) (a : EventAnswer) → isAccepted (four p q m n Accepted) ≡ false → four p q m n a ≡ four p q m n Accepted
+four-refused true q m n a h = refl
+four-refused false true m n a h = refl
+four-refused false false true n a h = refl
+four-refused false false false true a h = refl
+four-refused false false false false a h = absurd (false≢true (sym h))
 
 -- none of them fails
-four-passed : (p q m n : Bool) (a : EventAnswer) → numberOf (four p q m n Accepted) ≡ 0 → four p q m n a ≡ a
-four-passed true q m n a h = absurd (omega arith)
-four-passed false true m n a h = absurd (omega arith)
-four-passed false false true n a h = absurd (omega arith)
-four-passed false false false true a h = absurd (omega arith)
+four-passed : (p q m n : Bool) (a : EventAnswer) → isAccepted (four p q m n Accepted) ≡ true → four p q m n a ≡ a
+four-passed true q m n a h = absurd (false≢true h)
+four-passed false true m n a h = absurd (false≢true h)
+four-passed false false true n a h = absurd (false≢true h)
+four-passed false false false true a h = absurd (false≢true h)
 four-passed false false false false a h = refl
 
+-- what the pure step answers
+abbrev stepAnswer : Book → State → Bytes → EventAnswer
+stepAnswer b s r = firstFailing Accepted (decisions b s r)
+
+-- the pure step accepts where none of its checks fails
+pub step-passed : (b : Book) (s : State) (r : Bytes) {x : Stepped} {words : List ℕ} → Decided b s (eventIn r) (decisions b s r) x words
+    → x .accepted ≡ true → isAccepted (stepAnswer b s r) ≡ true
+step-passed b s r d h = sym (ap isAccepted (d .first)) ∙ sym (d .flag) ∙ h
+
 -- where no check before the buffer's fails the book is sound
-pub passed-sound : (b : Book) (s : State) (r : Bytes) → stepNumber b s r ≡ 0 → BookSound b
-passed-sound b s r h = book-facts b (go (bookSound b) refl)
+pub passed-variables : (b : Book) (s : State) (r : Bytes) → isAccepted (stepAnswer b s r) ≡ true → b .variables ≤ 4
+passed-variables b s r h = book-counts b (go (bookSound b) refl) .0
   where
     go : (t : Bool) → bookSound b ≡ t → bookSound b ≡ true
     go true e = e
-    go false e = absurd (let z = number-book b s r e in omega arith)
+    go false e = absurd (false≢true (sym (ap isAccepted (first-book b s r e)) ∙ h))
 
 module _ (b : Book) (s : State) (r buffer : Bytes) (place : ℕ) where
   -- the answer of the buffer's check
@@ -75,12 +82,11 @@ module _ (b : Book) (s : State) (r buffer : Bytes) (place : ℕ) where
   abbrev its-rows : List Valuation
   its-rows = rowsBy b s (eventIn r)
 
-  answer-refused : (stepNumber b s r ≡ 0 → ⊥)
-      → (answerTo b s r buffer place ≡ answerOf (stepNumber b s r)) × (isAccepted (answerTo b s r buffer place) ≡ false)
+  answer-refused : isAccepted (stepAnswer b s r) ≡ false → answerTo b s r buffer place ≡ stepAnswer b s r
   unfolding answerTo
   answer-refused h = four-refused (unsound b s r) (outOfForm b s r) (tooMany b s r) (noRoom b s r) last h
 
-  answer-passed : stepNumber b s r ≡ 0 → answerTo b s r buffer place ≡ last
+  answer-passed : isAccepted (stepAnswer b s r) ≡ true → answerTo b s r buffer place ≡ last
   unfolding answerTo
   answer-passed h = four-passed (unsound b s r) (outOfForm b s r) (tooMany b s r) (noRoom b s r) last h
 
@@ -89,21 +95,18 @@ module _ (b : Book) (s : State) (r buffer : Bytes) (place : ℕ) where
   refusal t a = record { answer = a; rows = 0; book = b; state = s; tally = tallied t 0 1 0 }
 
   -- a refusal, whatever its answer
-  ends-not : (t : Tally) {a : EventAnswer} → answerTo b s r buffer place ≡ a → isAccepted (answerTo b s r buffer place) ≡ false
-      → {x : Taken} → x ≡ refusal t a
+  ends-not : (t : Tally) {a : EventAnswer} → answerTo b s r buffer place ≡ a → isAccepted a ≡ false → {x : Taken} → x ≡ refusal t a
       → (x ≡ taken b s r buffer place t) × (buffer ≡ bufferAfter b s r buffer place)
   unfolding taken bufferAfter
-  ends-not t h k e = (e ∙ rw (k, h), rw k)
+  ends-not t h k e = (e ∙ rw (h, k), rw (h, k))
 
   -- refused by one of the checks before the buffer's
-  pub ends-refused : (t : Tally) (n : ℕ) → n ≡ stepNumber b s r → (n ≡ 0 → ⊥) → {a : EventAnswer} → a ≡ answerOf n → {x : Taken} → x ≡ refusal t a
+  pub ends-refused : (t : Tally) {a : EventAnswer} → a ≡ stepAnswer b s r → isAccepted a ≡ false → {x : Taken} → x ≡ refusal t a
       → (x ≡ taken b s r buffer place t) × (buffer ≡ bufferAfter b s r buffer place)
-  ends-refused t n e h f =
-      let a = answer-refused (λ z. h (e ∙ z)) in
-      ends-not t (a .0 ∙ ap answerOf (sym e) ∙ sym f) (a .1)
+  ends-refused t f h = ends-not t (answer-refused (sym (ap isAccepted f) ∙ h) ∙ sym f) h
 
   -- the state after an accepted event and the words that hold its rows
-  module _ (passed : stepNumber b s r ≡ 0) (next : State) (n : ℕ) (words : List ℕ) (moved : Moved b s (eventIn r) next n words) where
+  module _ (passed : isAccepted (stepAnswer b s r) ≡ true) (next : State) (n : ℕ) (words : List ℕ) (moved : Moved b s (eventIn r) next n words) where
     -- the answer is that of the buffer's check, by what that finds
     told : {x : Bool} → noSpace b s r buffer place ≡ x → answerTo b s r buffer place ≡ cond x NoSpace Accepted
     told e = answer-passed passed ∙ ap (λ x. cond x NoSpace Accepted) e
@@ -115,7 +118,7 @@ module _ (b : Book) (s : State) (r buffer : Bytes) (place : ℕ) where
     ends-short t h =
         let k = leb-false (place + rowSize * n) (length buffer) h in
         let a = told (lt-ltb (length buffer) (place + rowSize * length its-rows) (rw (← moved .counted) k)) in
-        ends-not t a (ap isAccepted a)
+        ends-not t a refl
 
     accepted : leb (place + rowSize * n) (length buffer) ≡ true → answerTo b s r buffer place ≡ Accepted
     unfolding noSpace

@@ -36,10 +36,10 @@ pub fn event(
 {
     let mut words = [0u32; rows::WORDS];
     let s = transition::step(book, state, bytes, &mut words);
-    if s.number != 0 {
-        let answer = answers::answer_of(s.number);
-        return outcome::refused(answer, book, state, tally);
+    if s.accepted {
+        let next = s.state;
+        return outcome::settled(book, state, next, &words, s.rows, rows, place, tally);
     }
-    let next = s.state;
-    outcome::settled(book, state, next, &words, s.rows, rows, place, tally)
+    let answer = s.answer;
+    outcome::refused(answer, book, state, tally)
 }

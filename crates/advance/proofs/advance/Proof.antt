@@ -9,11 +9,11 @@ use Rattle.advance.proofs.advance.Statement.{statement}
 use Rattle.advance.proofs.advance.Tie as tie
 
 abbrev Inv-loop : tie.InvT-loop
-Inv-loop held at masks n next₀ next-at₀ book cs words₀ a₀ b₀ positions total₀ i₀ next next-at words a b total i =
-    (i ≤ positions) × Advancing book cs held at n i total next-at next
+Inv-loop begins held at masks n next₀ next-at₀ book cs words₀ a₀ b₀ positions total₀ i₀ next next-at words a b total i =
+    (i ≤ positions) × Advancing book begins cs held at n i total next-at next
 
 abbrev μ-loop : tie.MeasureT-loop
-μ-loop held at masks n next₀ next-at₀ book cs words₀ a₀ b₀ positions total₀ i₀ next next-at words a b total i =
+μ-loop begins held at masks n next₀ next-at₀ book cs words₀ a₀ b₀ positions total₀ i₀ next next-at words a b total i =
     positions - i
 
 -- the book's list of occurrences is an array of 31
@@ -25,12 +25,12 @@ symbol-below : (t : tie.In-loop Inv-loop μ-loop)
     → let a = t .before .before .args in getD (a .t1 .occurrences) (t .before .loop .i) 0 < a .t1 .symbols
 symbol-below t =
     let s = t .before .before in
-    number-below (s .args .t1) (t .before .loop .i) (t .loop-test .taken) (long s) (s .pre .1 .positions) (s .pre .2)
+    number-below (s .args .t1) (s .args .begins) (t .before .loop .i) (t .loop-test .taken) (long s) (s .pre .1 .positions) (s .pre .2)
 
 loop-holds : tie.Need-loop-holds Inv-loop μ-loop
 loop-holds c =
     let a = c .args in
-    (omega arith, advancing-none (a .t1) (a .t2) (a .held .now) (a .at .now) (a .n) (a .next-at .now) (a .next .now) (long c) (c .pre .1 .positions))
+    (omega arith, advancing-none (a .t1) (a .begins) (a .t3) (a .held .now) (a .at .now) (a .n) (a .next-at .now) (a .next .now) (long c) (c .pre .1 .positions))
 
 mul-y : tie.Need-mul-y Inv-loop μ-loop
 mul-y c = search needs
@@ -86,7 +86,7 @@ add-label-requires c κs =
       omega arith,
       s .pre .5 (getD (a .t1 .occurrences) (l .i) 0) (symbol-below t),
       s .pre .5,
-      ascending-at (a .t1) (a .t2) (a .held .now) (a .at .now) (a .n) (l .i + 1) (s .pre .3),
+      ascending-at (a .t1) (a .begins) (a .t3) (a .held .now) (a .at .now) (a .n) (l .i + 1) (s .pre .3),
       l .inv .1 .few,
     )
 
@@ -94,7 +94,7 @@ add-label-requires c κs =
 turn : (c : tie.After-add-label Inv-loop μ-loop) →
     let t = turning (tested c) in
     let a = t .before .before .args in
-    Turned (a .t1) (a .t2) (a .held .now) (a .at .now) (a .n) (t .before .loop .i) (c .add-label .result)
+    Turned (a .t1) (a .begins) (a .t3) (a .held .now) (a .at .now) (a .n) (t .before .loop .i) (c .add-label .result)
     (c .add-label .last .1 .1 .1 .1 .1 .1 .1 .1 .1 .1 .1 .0) (c .add-label .last .1 .1 .1 .1 .1 .1 .1 .1 .1 .1 .0)
 turn c =
     let t = turning (tested c) in
@@ -103,7 +103,7 @@ turn c =
     let a = s .args in
     let p = c .add-label in
     let begins = tested c .has in
-    one-turn (a .t1) (a .t2) (a .held .now) (a .at .now) (a .n) (l .i) (l .total) (p .result) (l .next-at) (l .next)
+    one-turn (a .t1) (a .begins) (a .t3) (a .held .now) (a .at .now) (a .n) (l .i) (l .total) (p .result) (l .next-at) (l .next)
     (p .last .1 .1 .1 .1 .1 .1 .1 .1 .1 .1 .1 .0) (p .last .1 .1 .1 .1 .1 .1 .1 .1 .1 .1 .0) (a .masks .now) (begins .result)
     (t .loop-test .taken) (long s) (s .pre .1 .positions) (s .pre .2) (s .pre .4) (begins .ensures) (l .inv .1) (p .ensures)
 
@@ -123,7 +123,7 @@ returns-2 : tie.Need-returns-2 Inv-loop μ-loop
 returns-2 c =
     let l = c .before .loop in
     let a = c .before .before .args in
-    advancing-done (a .t1) (a .t2) (a .held .now) (a .at .now) (a .n) (l .i) (l .total) (l .next-at) (l .next) (c .loop-test .left) (l .inv .1)
+    advancing-done (a .t1) (a .begins) (a .t3) (a .held .now) (a .at .now) (a .n) (l .i) (l .total) (l .next-at) (l .next) (c .loop-test .left) (l .inv .1)
 
 pub advance-spec : {M : Type 1} → statement M
 advance-spec =

@@ -1,126 +1,91 @@
--- `transition::judged` meets its contract: the lent words hold what the state holds, made wide, and the masks and constraints are those of
--- the book, so that each test is the one of `judgedNumber`.
-use mathlib.Core.Path.{_∙_}
+-- `transition::judged` meets its contract: the lent words hold what the state holds, made wide, so that each test is that of a check, and what is
+-- stored is the state after the event.
+use mathlib.Core.Path.{refl}
 use native.Mathlib.Omega.{arith}
 use borrow.Author.Needs.{needs}
-use Rattle.transition.proofs.Checks.{book-facts, state-facts}
-use Rattle.transition.proofs.Steps.{constraints-known, parameters-sound, masks-known, free-ends, many-ends, moved-number}
+use Rattle.sound.proofs.Soundness.{book-counts, state-count, state-number}
+use Rattle.transition.proofs.Checks.{refused-by, judged-free, judged-many, judged-none}
+use Rattle.transition.proofs.Steps.{begins-sound, holding, free-known, no-room, accepted-by}
 use Rattle.transition.proofs.judged.Statement.{statement}
 use Rattle.transition.proofs.judged.Tie as tie
 
-constraints-requires : tie.Need-constraints-requires
-constraints-requires c κs =
-    let p = c .before .before .pre in
-    let b = book-facts _ (p .0) in
-    (b .counts .symbols, p .2, b .symbols)
-
 load-requires : tie.Need-load-requires
 load-requires c κs =
-    let p = c .before .before .before .before .before .pre in
-    (state-facts _ _ (p .1) .count, book-facts _ (p .0) .variables)
+    let p = c .before .before .pre in
+    (state-count _ _ (p .1), book-counts _ (p .0) .0)
 
--- the stops before the words are loaded: the constraints, and the beginning
-abbrev constrained : tie.After-load → tie.After-constraints
-constrained c = c .before .before .before
-
-abbrev begun : tie.After-load → tie.Start
-begun c = constrained c .before .before .before
-
-follow-masks-requires : tie.Need-follow-masks-requires
-follow-masks-requires c κs =
-    let load = c .before .before in
-    let p = begun load .pre in
-    let b = book-facts _ (p .0) in
-    let s = state-facts _ _ (p .1) in
-    (s .count, parameters-sound _ _ b s _ _ (load .load .ensures))
-
--- the words are loaded before their masks are made
-abbrev loaded : tie.After-follow-masks → tie.After-load
-loaded c = c .before .before .before
-
-leaves-free-requires : tie.Need-leaves-free-requires
-leaves-free-requires c κs =
-    let masks = c .before .before .before in
-    let load = loaded masks in
-    let cs = constrained load in
-    let p = begun load .pre in
-    let b = book-facts _ (p .0) in
-    let s = state-facts _ _ (p .1) in
-    let followed = masks-known _ _ b s _ _ (load .load .ensures) _ (masks .follow-masks .ensures) in
-    (s .count, b .counts, b .view, followed, cs .constraints .ensures .1)
+take-event-requires : tie.Need-take-event-requires
+take-event-requires c κs =
+    let load = c .before .before .before .before .before in
+    let p = load .before .before .before .pre in
+    (p .0, begins-sound _ (p .0), p .2, state-count _ _ (p .1), holding _ _ (p .1) _ _ (load .load .ensures))
 
 refusal-requires : tie.Need-refusal-requires
 refusal-requires c κs = search needs
 
--- and the masks before the test for a variable left free
-abbrev masked : tie.After-leaves-free → tie.After-follow-masks
-masked c = c .before .before .before .before
+-- the stops before the event is taken: the words are loaded, and the beginning
+abbrev loaded : tie.After-take-event → tie.After-load
+loaded c = c .before .before .before .before .before .before
+
+abbrev begun : tie.After-take-event → tie.Start
+begun c = loaded c .before .before .before
 
 returns : tie.Need-returns
 returns c =
-    let test = c .before .before in
-    let load = loaded (masked test) in
-    let cs = constrained load in
-    let p = begun load .pre in
-    let b = book-facts _ (p .0) in
-    let s = state-facts _ _ (p .1) in
-    let tested = test .leaves-free .ensures _ (constraints-known _ _ _ (cs .constraints .ensures .0)) in
-    free-ends _ _ b s _ _ (load .load .ensures) _ _ tested (c .before .if1 .taken) (c .refusal .ensures .0)
+    let t = c .before .before in
+    let left = t .take-event .ensures (holding _ _ (begun t .pre .1) _ _ (loaded t .load .ensures)) in
+    refused-by _ _ _ _ (judged-free _ _ _ (free-known _ _ _ _ _ _ _ left (c .before .if1 .taken))) refl (c .refusal .ensures)
 
 refusal-requires-2 : tie.Need-refusal-requires-2
 refusal-requires-2 c κs = search needs
 
 returns-2 : tie.Need-returns-2
 returns-2 c =
-    let left = c .before .before .before in
-    let test = left .before in
-    let load = loaded (masked test) in
-    let cs = constrained load in
-    let p = begun load .pre in
-    let b = book-facts _ (p .0) in
-    let s = state-facts _ _ (p .1) in
-    let tested = test .leaves-free .ensures _ (constraints-known _ _ _ (cs .constraints .ensures .0)) in
-    many-ends _ _ b s _ _ (load .load .ensures) _ _ tested (left .if1 .left) (c .before .if2 .taken) (c .refusal2 .ensures .0)
+    let bound = c .before .before .before in
+    let t = bound .before in
+    let left = t .take-event .ensures (holding _ _ (begun t .pre .1) _ _ (loaded t .load .ensures)) in
+    refused-by _ _ _ _ (judged-many _ _ _ (free-known _ _ _ _ _ _ _ left (bound .if1 .left)) (c .before .if2 .taken)) refl (c .refusal2 .ensures)
 
-moved-requires : tie.Need-moved-requires
-moved-requires c κs =
-    let below = c .before .before .before .before in
-    let masks = masked (below .before .before .before) in
-    let load = loaded masks in
-    let cs = constrained load in
-    let p = begun load .pre in
-    let b = book-facts _ (p .0) in
-    let s = state-facts _ _ (p .1) in
-    let holds = load .load .ensures in
-    let followed = masks-known _ _ b s _ _ holds _ (masks .follow-masks .ensures) in
-    (p .0, p .1, omega (arith, s .number, below .if2 .left), holds, followed, cs .constraints .ensures .1)
+refusal-requires-3 : tie.Need-refusal-requires-3
+refusal-requires-3 c κs = search needs
 
 returns-3 : tie.Need-returns-3
 returns-3 c =
-    let below = c .before .before .before .before .before in
-    let left = below .before .before in
-    let test = left .before in
-    let load = loaded (masked test) in
-    let cs = constrained load in
-    let p = begun load .pre in
-    let b = book-facts _ (p .0) in
-    let s = state-facts _ _ (p .1) in
-    let known = constraints-known _ _ _ (cs .constraints .ensures .0) in
-    let tested = test .leaves-free .ensures _ known in
-    let r = c .moved .ensures _ known in
-    (r .0 ∙ moved-number _ _ b s _ _ (load .load .ensures) _ _ tested (left .if1 .left) (below .if2 .left), r .1)
+    let few = c .before .before .before in
+    let bound = few .before .before in
+    let t = bound .before in
+    let left = t .take-event .ensures (holding _ _ (begun t .pre .1) _ _ (loaded t .load .ensures)) in
+    refused-by _ _ _ _
+    (judged-none _ _ _ (free-known _ _ _ _ _ _ _ left (bound .if1 .left)) (few .if2 .left) (no-room _ _ _ _ _ _ _ left (c .before .if3 .taken)))
+    refl (c .refusal3 .ensures)
+
+add-store : tie.Need-add-store
+add-store c = omega (arith, state-number _ _ (begun (c .before .before .before .before .before .before) .pre .1))
+
+store-requires : tie.Need-store-requires
+store-requires c κs = search needs
+
+returns-4 : tie.Need-returns-4
+returns-4 c =
+    let room = c .before .before .before .before in
+    let few = room .before .before in
+    let bound = few .before .before in
+    let t = bound .before in
+    let left = t .take-event .ensures (holding _ _ (begun t .pre .1) _ _ (loaded t .load .ensures)) in
+    accepted-by _ _ _ _ _ _ _ left (bound .if1 .left) (few .if2 .left) (room .if3 .left) (c .store .ensures)
 
 pub judged-spec : {M : Type 1} → statement M
 judged-spec =
     tie.close
     (tie.spec
-    constraints-requires
     load-requires
-    follow-masks-requires
-    leaves-free-requires
+    take-event-requires
     refusal-requires
     returns
     refusal-requires-2
     returns-2
-    moved-requires
-    returns-3)
+    refusal-requires-3
+    returns-3
+    add-store
+    store-requires
+    returns-4)

@@ -1,0 +1,2 @@
+-- What the pure step over lent words asks for, and what it leaves.
+pub mod Effects
