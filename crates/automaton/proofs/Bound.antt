@@ -136,7 +136,8 @@ module _ (tm : Tracematch) where
   symbol-at r = symbolOf-at tm (reach-among r)
 
   -- the book, or the same with fewer beginning positions
-  module _ (m : ℕ) (fewer : (q : ℕ) → bit q m ≡ true → Has q (Positions.beginning (tm .pattern) 1)) (held : List Held) (backed : AllBacked held) (e : Event) where
+  module _ (m : ℕ) (fewer : (q : ℕ) → bit q m ≡ true → Has q (Positions.beginning (tm .pattern) 1)) (held : List Held) (backed : AllBacked held)
+      (e : Event) where
     abbrev fewerBook : Book
     fewerBook = startingAt m (bookOf tm)
 

@@ -93,7 +93,8 @@ at-event {S} {R} step give d s cs i h =
     let many : length (keep accepts (take k (resultsFrom m s cs))) ≡ i =
     rw (results-take m s k cs) (as-many m accepts wasTaken (λ s c. refl) s (take k cs) ∙ p .before) in
     let r : PlainResult S R = m .gives (run step s (take k cs)) c in
-    let there : Within (keep accepts (resultsFrom m s cs)) i r = rw many at (passed-there accepts (resultsFrom m s cs) k r (result-there m s cs k c (p .there)) (p .passes)) in
+    let there : Within (keep accepts (resultsFrom m s cs)) i r =
+    rw many at (passed-there accepts (resultsFrom m s cs) k r (result-there m s cs k c (p .there)) (p .passes)) in
     record {
       before = take k cs;
       now = sentEvent c;

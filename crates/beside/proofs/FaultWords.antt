@@ -69,7 +69,8 @@ pub rules-words : (s : Bytes) (p n : ℕ)
     × (((n ≡ 0) × (p ≡ 0)) ↔ ((length s ≤ 4096) × NoFault s × (AdmitsEmpty s → ⊥) × (LeavesUnbound s → ⊥))))
 rules-words s p n = (
   λ r. (r .long, λ m q low high. r .fault m q (listed-range m .1 (low, high)), r .seven, r .eight, r .first, r .none),
-  λ (a, b, c, d, e, f). record { long = a; fault = λ m q x. let (low, high) = listed-range m .0 x in b m q low high; seven = c; eight = d; first = e; none = f },
+  λ (a, b, c, d, e, f).
+      record { long = a; fault = λ m q x. let (low, high) = listed-range m .0 x in b m q low high; seven = c; eight = d; first = e; none = f },
 )
 
 -- no other number than 0 to 8

@@ -119,7 +119,8 @@ answered text d r f cs bytes k m at =
     let ms = take k (runOf (reading text .book) cs) in
     let first : ms ≡ runOf (reading text .book) (take k cs) = results-take (watching (reading text .book)) freshState k cs in
     let few : allBytes (take k cs) ≡ true = all-take (λ c. isBytes (lentAt c .bytes)) k cs bytes in
-    let good : all wellFormed (Runs.traceOf (plain ms)) ≡ true = rw (trace-plain ms, first) (trace-formed (reading text .book) tm rd 0 (omega arith) (take k cs) few) in
+    let good : all wellFormed (Runs.traceOf (plain ms)) ≡ true =
+    rw (trace-plain ms, first) (trace-formed (reading text .book) tm rd 0 (omega arith) (take k cs) few) in
     let done = rw (behind-is tm ok (plain ms) good) at (course-at (reading text .book) tm rd 0 (omega arith) cs bytes k m at) in
     rw (trace-plain ms) at (judged tm ok (plain ms) good (m .lent) (done .formed) (m .taken .answer) (done .decision))
 

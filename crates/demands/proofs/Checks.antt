@@ -135,12 +135,18 @@ first-failing b s bytes buffer place t =
     rw (taken-answer b s l) (record {
       nine = Iff·trans (number-first Answer.Accepted numberOf c9 l10 refl) p9;
       ten = number-behind Answer.Accepted numberOf 10 c9 l10 refl p9 (Iff·trans (number-first Answer.Accepted numberOf c10 l11 refl) p10);
-      eleven = row3 (number-behind Answer.Accepted numberOf 11 c9 l10 refl p9 (number-behind Answer.Accepted numberOf 11 c10 l11 refl p10 (Iff·trans (number-first Answer.Accepted numberOf c11 l12 refl) p11)));
-      twelve = row4 (number-behind Answer.Accepted numberOf 12 c9 l10 refl p9 (number-behind Answer.Accepted numberOf 12 c10 l11 refl p10 (number-behind Answer.Accepted numberOf 12 c11 l12 refl p11
-          (Iff·trans (number-first Answer.Accepted numberOf c12 l13 refl) p12))));
-      thirteen = row5 (number-behind Answer.Accepted numberOf 13 c9 l10 refl p9 (number-behind Answer.Accepted numberOf 13 c10 l11 refl p10 (number-behind Answer.Accepted numberOf 13 c11 l12 refl p11
+      eleven = row3 (number-behind Answer.Accepted numberOf 11 c9 l10 refl p9
+          (number-behind Answer.Accepted numberOf 11 c10 l11 refl p10 (Iff·trans (number-first Answer.Accepted numberOf c11 l12 refl) p11)));
+      twelve = row4 (number-behind Answer.Accepted numberOf 12 c9 l10 refl p9
+          (number-behind Answer.Accepted numberOf 12 c10 l11 refl p10
+          (number-behind Answer.Accepted numberOf 12 c11 l12 refl p11 (Iff·trans (number-first Answer.Accepted numberOf c12 l13 refl) p12))));
+      thirteen = row5 (number-behind Answer.Accepted numberOf 13 c9 l10 refl p9
+          (number-behind Answer.Accepted numberOf 13 c10 l11 refl p10
+          (number-behind Answer.Accepted numberOf 13 c11 l12 refl p11
           (number-behind Answer.Accepted numberOf 13 c12 l13 refl p12 (Iff·trans (number-first Answer.Accepted numberOf c13 [] refl) p13)))));
-      zero = row5 (number-behind Answer.Accepted numberOf 0 c9 l10 refl p9 (number-behind Answer.Accepted numberOf 0 c10 l11 refl p10 (number-behind Answer.Accepted numberOf 0 c11 l12 refl p11
+      zero = row5 (number-behind Answer.Accepted numberOf 0 c9 l10 refl p9
+          (number-behind Answer.Accepted numberOf 0 c10 l11 refl p10
+          (number-behind Answer.Accepted numberOf 0 c11 l12 refl p11
           (number-behind Answer.Accepted numberOf 0 c12 l13 refl p12 (number-otherwise Answer.Accepted numberOf c13 refl p13)))));
     })
 

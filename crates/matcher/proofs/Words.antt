@@ -65,7 +65,8 @@ module _ (b : Book) (m : ℕ) where
       (leb-true 1 (h .position) (q .0 .0), omega (arith, leb-true (h .position) (length (take (b .positions) (b .occurrences))) (q .0 .1)))
 
   -- the lent words hold what is sound with it
-  module _ (sb : bookSound b ≡ true) (st : Plain.soundBook (viewFrom m b) ≡ true) (n : ℕ) (at w : List ℕ) (few : n ≤ 128) (held : Holding (viewFrom m b) n at w) where
+  module _ (sb : bookSound b ≡ true) (st : Plain.soundBook (viewFrom m b) ≡ true) (n : ℕ) (at w : List ℕ) (few : n ≤ 128)
+      (held : Holding (viewFrom m b) n at w) where
     parameter-known : (p : ℕ) → List·Memᴰ p (take n at) → (1 ≤ p) × (p ≤ b .positions)
     parameter-known p k =
         let e = sym (positions-in n at w few) ∙ ap (map (λ h. h .position)) (held .wide) ∙ wide-position (held .plain) in
@@ -100,7 +101,8 @@ module _ (b : Book) (m : ℕ) where
       pub effects-known : (r : Effect) (at′ w′ out : List ℕ)
           → rowsGrown (r .rows) out ≡ within rowLimit (rows (wideBook (viewFrom m b)) (heldIn n at w) e)
           → r .free ≡ freeRows (b .variables) (wideBook (viewFrom m b)) (heldIn n at w) e
-          → heldGrown (r .held) at′ w′ ≡ cond (room (wideBook (viewFrom m b)) (heldIn n at w) e) (grown (newHeld (wideBook (viewFrom m b)) (heldIn n at w) e)) full
+          → heldGrown (r .held) at′ w′
+          ≡ cond (room (wideBook (viewFrom m b)) (heldIn n at w) e) (grown (newHeld (wideBook (viewFrom m b)) (heldIn n at w) e)) full
           → Effects (viewFrom m b) (held .plain) e r at′ w′ out
       unfolding viewBook
       effects-known r at′ w′ out g f a =

@@ -44,7 +44,8 @@ fn put_rows(out: &mut [u8], words: &Words, n: usize, shared: RowFields)
 // The first n rows from the place on; the bytes before it and after the last row stay.
 pub fn write_rows(out: &mut [u8], place: usize, words: &Words, n: usize, shared: RowFields)
     requires { ⌜ (shared .variables ≤ variableLimit) × (n ≤ rowLimit) × (place + rowSize * n ≤ length (now out)) ⌝ }
-    ensures { λ _. ⌜ now (out .exit) ≡ splice place (gather (λ σ. bytesOf (withValues shared σ)) (take n (valuationsIn (now (words .entry))))) (now (out .entry)) ⌝ }
+    ensures { λ _. ⌜ now (out .exit)
+        ≡ splice place (gather (λ σ. bytesOf (withValues shared σ)) (take n (valuationsIn (now (words .entry))))) (now (out .entry)) ⌝ }
 {
     put_rows(&mut out[place..], words, n, shared);
 }

@@ -29,8 +29,10 @@ symbol-below t =
 
 loop-holds : tie.Need-loop-holds Inv-loop μ-loop
 loop-holds c =
-    let a = c .args in
-    (omega arith, advancing-none (a .t1) (a .begins) (a .t3) (a .held .now) (a .at .now) (a .n) (a .next-at .now) (a .next .now) (long c) (c .pre .1 .positions))
+    let a = c .args in (
+      omega arith,
+      advancing-none (a .t1) (a .begins) (a .t3) (a .held .now) (a .at .now) (a .n) (a .next-at .now) (a .next .now) (long c) (c .pre .1 .positions),
+    )
 
 mul-y : tie.Need-mul-y Inv-loop μ-loop
 mul-y c = search needs
