@@ -18,7 +18,7 @@ use Rattle.runs.specs.Runs.{Within}
 use Rattle.calls.specs.Answers.{numberOf}
 use Rattle.calls.specs.Checks.{FirstFailing}
 use Rattle.calls.specs.Runs.{event, Made, make, runOf, acceptedIn, traceOf, Delivered, Judged}
-use Rattle.examples.specs.Starred.{Line, runs, late, reads, buffer, place, callOf, idle, backOf, outcome, wantedBack, wanted, Meant}
+use Rattle.examples.specs.Starred.{Line, runs, late, reads, buffer, place, callOf, backOf, outcome, wantedBack, wanted, Meant}
 
 -- a call lends the record and 49 bytes of 255, from the place 1 on; what comes back of it is number, count, bytes and tally
 pub call-said : (l : Line) (m : Made)
