@@ -15,6 +15,7 @@ use Rattle.laws.proofs.Lists.{all-at, all-of, mem-map}
 use Rattle.laws.proofs.Maps.{map-agree}
 use Rattle.meaning.specs.Events as Events
 use Rattle.meaning.specs.Book as Plain
+use Rattle.meaning.specs.Book.{soundBook, followers}
 use Rattle.meaning.specs.Labels.{Held, newHeld}
 use Rattle.meaning.specs.Room.{room}
 use Rattle.meaning.specs.Rows.{rowLimit, rows}
@@ -65,8 +66,7 @@ module _ (b : Book) (m : ℕ) where
       (leb-true 1 (h .position) (q .0 .0), omega (arith, leb-true (h .position) (length (take (b .positions) (b .occurrences))) (q .0 .1)))
 
   -- the lent words hold what is sound with it
-  module _ (sb : bookSound b ≡ true) (st : Plain.soundBook (viewFrom m b) ≡ true) (n : ℕ) (at w : List ℕ) (few : n ≤ 128)
-      (held : Holding (viewFrom m b) n at w) where
+  module _ (sb : bookSound b ≡ true) (n : ℕ) (at w : List ℕ) (few : n ≤ 128) (held : Holding (viewFrom m b) n at w) where
     parameter-known : (p : ℕ) → List·Memᴰ p (take n at) → (1 ≤ p) × (p ≤ b .positions)
     parameter-known p k =
         let e = sym (positions-in n at w few) ∙ ap (map (λ h. h .position)) (held .wide) ∙ wide-position (held .plain) in
@@ -80,42 +80,40 @@ module _ (b : Book) (m : ℕ) where
         ap₂ _&&_ (le-leb 1 p (j .0)) (le-leb p 31 (omega (arith, j .1, book-counts b sb .2)))
 
     pub masks-known : (masks : List ℕ) → take n masks ≡ map (λ p. getD (b .follows) (p - 1) 0) (take n at)
-        → take n masks ≡ map (Plain.followers (viewBook b)) (take n at)
+        → take n masks ≡ map (followers (viewBook b)) (take n at)
     unfolding viewBook
     masks-known masks e =
-        e ∙ map-agree (λ p. getD (b .follows) (p - 1) 0) (Plain.followers (viewBook b)) (take n at) λ p k.
+        e ∙ map-agree (λ p. getD (b .follows) (p - 1) 0) (followers (viewBook b)) (take n at) λ p k.
         let j = parameter-known p k in
         sym (getD-take (b .positions) (b .follows) (p - 1) 0 (omega arith))
 
-    pub words-sound : soundHeld (wideBook (viewFrom m b)) (heldIn n at w) ≡ true
-    words-sound = rw (held .wide) (wide-sound (viewFrom m b) st (held .plain) (held .sound))
+-- the same of any sound book, as the rules have it
+module _ (b : Plain.Book) (sb : soundBook b ≡ true) (n : ℕ) (at w : List ℕ) (held : Holding b n at w) where
+  pub words-sound : soundHeld (wideBook b) (heldIn n at w) ≡ true
+  words-sound = rw (held .wide) (wide-sound b sb (held .plain) (held .sound))
 
-    -- one event: the count and the words of `collect` and of `advance`
-    module _ (e : Events.Event) where
-      rows-known : rows (wideBook (viewFrom m b)) (heldIn n at w) e ≡ map wideValuation (rows (viewFrom m b) (held .plain) e)
-      rows-known = ap (λ l. rows (wideBook (viewFrom m b)) l e) (held .wide) ∙ wide-rows (viewFrom m b) st (held .plain) (held .sound) e
+  module _ (e : Events.Event) where
+    rows-few : length (map wideValuation (rows b (held .plain) e)) ≤ rowLimit
+    rows-few = rw (length-map (rows b (held .plain) e) wideValuation) (few-rows b sb (held .plain) (held .sound) e)
 
-      rows-few : length (map wideValuation (rows (viewFrom m b) (held .plain) e)) ≤ rowLimit
-      rows-few = rw (length-map (rows (viewFrom m b) (held .plain) e) wideValuation) (few-rows (viewFrom m b) st (held .plain) (held .sound) e)
-
-      pub effects-known : (r : Effect) (at′ w′ out : List ℕ)
-          → rowsGrown (r .rows) out ≡ within rowLimit (rows (wideBook (viewFrom m b)) (heldIn n at w) e)
-          → r .free ≡ freeRows (b .variables) (wideBook (viewFrom m b)) (heldIn n at w) e
-          → heldGrown (r .held) at′ w′
-          ≡ cond (room (wideBook (viewFrom m b)) (heldIn n at w) e) (grown (newHeld (wideBook (viewFrom m b)) (heldIn n at w) e)) full
-          → Effects (viewFrom m b) (held .plain) e r at′ w′ out
-      unfolding viewBook
-      effects-known r at′ w′ out g f a =
-          let l = map wideValuation (rows (viewFrom m b) (held .plain) e) in
-          let q : (r .rows ≤ rowLimit) × (take (r .rows) (valuationsIn out) ≡ l) =
-          Valuations.grown-in (r .rows) out l (g ∙ ap (within rowLimit) rows-known ∙ ap (λ t. cond t (grown l) full) (le-leb (length l) rowLimit rows-few)) in
-          record {
-            free = f ∙ ap (λ k. freeRows (b .variables) (wideBook (viewFrom m b)) k e) (held .wide) ∙ wide-free (viewFrom m b) st (held .plain) (held .sound) e;
-            after = a ∙ ap (λ k. cond (room (wideBook (viewFrom m b)) k e) (grown (newHeld (wideBook (viewFrom m b)) k e)) full) (held .wide)
-                ∙ ap₂ (λ t k. cond t (grown k) full) (wide-room (viewFrom m b) st (held .plain) (held .sound) e)
-                (wide-held (viewFrom m b) st (held .plain) (held .sound) e);
-            counted = sym (length-take-le (r .rows) (valuationsIn out) (omega (arith, q .0, Valuations.in-length out))) ∙ ap length (q .1)
-                ∙ length-map (rows (viewFrom m b) (held .plain) e) wideValuation;
-            few = q .0;
-            listed = q .1;
-          }
+    -- by the counts, the flag and the words of `collect` and of `advance`
+    pub effects-known : (r : Effect) (at′ w′ out : List ℕ) → rowsGrown (r .rows) out ≡ within rowLimit (rows (wideBook b) (heldIn n at w) e)
+        → r .free ≡ freeRows (b .variables) (wideBook b) (heldIn n at w) e
+        → heldGrown (r .held) at′ w′ ≡ cond (room (wideBook b) (heldIn n at w) e) (grown (newHeld (wideBook b) (heldIn n at w) e)) full
+        → Effects b (held .plain) e r at′ w′ out
+    effects-known r at′ w′ out g f a =
+        let D = held .plain in
+        let l = map wideValuation (rows b D e) in
+        let listed : within rowLimit (rows (wideBook b) (heldIn n at w) e) ≡ grown l =
+        ap (λ k. within rowLimit (rows (wideBook b) k e)) (held .wide) ∙ ap (within rowLimit) (wide-rows b sb D (held .sound) e)
+        ∙ ap (λ t. cond t (grown l) full) (le-leb (length l) rowLimit rows-few) in
+        let q : (r .rows ≤ rowLimit) × (take (r .rows) (valuationsIn out) ≡ l) = Valuations.grown-in (r .rows) out l (g ∙ listed) in
+        record {
+          free = f ∙ ap (λ k. freeRows (b .variables) (wideBook b) k e) (held .wide) ∙ wide-free b sb D (held .sound) e;
+          after = a ∙ ap (λ k. cond (room (wideBook b) k e) (grown (newHeld (wideBook b) k e)) full) (held .wide)
+              ∙ ap₂ (λ t k. cond t (grown k) full) (wide-room b sb D (held .sound) e) (wide-held b sb D (held .sound) e);
+          counted = sym (length-take-le (r .rows) (valuationsIn out) (omega (arith, q .0, Valuations.in-length out))) ∙ ap length (q .1)
+              ∙ length-map (rows b D e) wideValuation;
+          few = q .0;
+          listed = q .1;
+        }

@@ -5,6 +5,7 @@ use mathlib.Core.List.{map}
 use lib.ListN.{take}
 use Rattle.meaning.specs.Book.{followers}
 use Rattle.book.specs.Books.{viewBook}
+use Rattle.book.specs.Counts.{viewFrom}
 use Rattle.sound.proofs.Soundness.{book-symbols}
 use Rattle.matcher.proofs.Words.{constraints-known, counts-known, parameters-sound, masks-known, words-sound, effects-known}
 use Rattle.matcher.proofs.take_event.Statement.{statement}
@@ -22,7 +23,7 @@ follow-masks-requires c κs =
     let s = c .before .before .before .before in
     let a = s .args in
     let p = s .pre in
-    (p .3, parameters-sound (a .book) (a .begins) (p .0) (p .1) (a .n) (a .at .now) (a .held .now) (p .3) (p .4))
+    (p .3, parameters-sound (a .book) (a .begins) (p .0) (a .n) (a .at .now) (a .held .now) (p .3) (p .4))
 
 -- the stops before the masks are made: the constraints, and the beginning
 abbrev constrained : tie.After-follow-masks → tie.After-constraints
@@ -37,7 +38,7 @@ followed : (c : tie.After-follow-masks) → let a = begun c .args in
 followed c =
     let a = begun c .args in
     let p = begun c .pre in
-    masks-known (a .book) (a .begins) (p .0) (p .1) (a .n) (a .at .now) (a .held .now) (p .3) (p .4) _ (c .follow-masks .ensures)
+    masks-known (a .book) (a .begins) (p .0) (a .n) (a .at .now) (a .held .now) (p .3) (p .4) _ (c .follow-masks .ensures)
 
 collect-requires : tie.Need-collect-requires
 collect-requires c κs =
@@ -57,12 +58,13 @@ advance-requires c κs =
       p .3,
       counts-known _ (p .0),
       p .1,
-      words-sound (a .book) (a .begins) (p .0) (p .1) (a .n) (a .at .now) (a .held .now) (p .3) (p .4),
+      words-sound (viewFrom (a .begins) (a .book)) (p .1) (a .n) (a .at .now) (a .held .now) (p .4),
       followed masks,
       constrained masks .constraints .ensures .1,
     )
 
 returns : tie.Need-returns
+unfolding viewBook
 returns c h =
     let rows = c .before .before .before .before in
     let masks = masked rows in
@@ -70,8 +72,8 @@ returns c h =
     let p = begun masks .pre in
     let agree = constraints-known (a .book) _ _ (constrained masks .constraints .ensures .0) in
     let found = rows .collect .ensures _ agree in
-    effects-known (a .book) (a .begins) (p .0) (p .1) (a .n) (a .at .now) (a .held .now) (p .3) h _ _ _ _ _
-    (found .0) (found .1) (c .advance .ensures _ agree)
+    effects-known (viewFrom (a .begins) (a .book)) (p .1) (a .n) (a .at .now) (a .held .now) h _ _ _ _ _ (found .0) (found .1)
+    (c .advance .ensures _ agree)
 
 pub take-event-spec : {M : Type 1} → statement M
 take-event-spec =
