@@ -1,6 +1,6 @@
 -- The same book with four variables, and what is held made four wide, gives the same labels made four wide, the same room,
--- the rows made four wide, and the same answer whether a row would leave a variable free. For the crates advance, sound and
--- collect, which work with four slots whatever the book declares.
+-- the rows made four wide, and the same answer whether a row would leave a variable free. For the crate
+-- matcher, whose words have four slots to a disjunct whatever the book declares.
 use mathlib.Core.Path.{_≡_, refl, sym, ap, ap₂, _∙_}
 use mathlib.Core.Bool.{Bool, true, false, cond, _&&_, and-eq-true-iff}
 use mathlib.Core.List.{List, [], _∷_, _++_, map, map-append, map-map, List·Memᴰ}
