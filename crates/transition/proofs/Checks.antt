@@ -22,7 +22,7 @@ use Rattle.transition.specs.Moves.{judgements, Decided}
 
 -- refused: the answer of the first check that fails, which is none of acceptance
 pub refused-by : (b : Book) (s : State) (e : Events.Event) (checks : List (Check EventAnswer)) {a : EventAnswer} → firstFailing Accepted checks ≡ a
-    → isAccepted a ≡ false → {r : Stepped} → (r .answer ≡ a) × (r .accepted ≡ false) → {words : List ℕ} → Decided b s e checks r words
+    → isAccepted a ≡ false → {r : Stepped} → (r .answer ≡ a) × (r .accepted ≡ false) → {at next out : List ℕ} → Decided b s e checks r at next out
 refused-by b s e checks f n q =
     record {
       first = q .0 ∙ sym f;
@@ -86,8 +86,9 @@ module _ (r : List ℕ) (d : Decoded) (e : d ≡ decoded r) where
     decoded-view = ap viewEvent decoded-same ∙ view-event (eventIn r)
 
     -- what is decided of the event that is decoded is decided of the record
-    pub decided-record : (b : Book) (s : State) → bookSound b ≡ true → stateSound b s ≡ true → {x : Stepped} {words : List ℕ}
-        → Decided b s (viewEvent (d .event)) (judgements b s (viewEvent (d .event))) x words → Decided b s (eventIn r) (decisions b s r) x words
-    decided-record b s sb ss {x} {words} g =
-        let k = subst (λ v. Decided b s v (judgements b s v) x words) decoded-view g in
+    pub decided-record : (b : Book) (s : State) → bookSound b ≡ true → stateSound b s ≡ true → {x : Stepped} {at next out : List ℕ}
+        → Decided b s (viewEvent (d .event)) (judgements b s (viewEvent (d .event))) x at next out
+        → Decided b s (eventIn r) (decisions b s r) x at next out
+    decided-record b s sb ss {x} {at} {next} {out} g =
+        let k = subst (λ v. Decided b s v (judgements b s v) x at next out) decoded-view g in
         record { first = k .first ∙ sym (first-judged b s r sb ss decoded-record); flag = k .flag; moved = k .moved }

@@ -88,14 +88,20 @@ module _ (b : Book) (s : State) where
         ap₂ (λ n l. stateOf (record { number = n; held = l })) (add-one (s .number)) k
         ∙ state-wide (suc (s .number)) after (width-in (r .held) at w after k)
 
-    -- accepted: no check fails, and the state is stored
-    pub accepted-by : r .free ≡ false → (s .number ≡ eventLimit → ⊥) → r .held ≤ 128
-        → {next : State} → next ≡ stateOf (record { number = s .number + 1; held = heldIn (r .held) at w })
-        → Decided b s e (judgements b s e) (record { answer = Accepted; accepted = true; state = next; rows = r .rows }) out
+    -- accepted: no check fails, and the next state can be stored
+    pub accepted-by : r .free ≡ false → s .number ≤ eventLimit → (s .number ≡ eventLimit → ⊥) → r .held ≤ 128
+        → Decided b s e (judgements b s e) (record { answer = Accepted; accepted = true; held = r .held; rows = r .rows }) at w out
     unfolding rowsBy
-    accepted-by f n h q =
+    accepted-by f l n h =
         record {
           first = sym (judged-passed b s e (free-known f) n (room-held h .0));
           flag = refl;
-          moved = λ _. record { after = q ∙ stored-known h; counted = known .counted; few = known .few; listed = known .listed };
+          moved = λ _. record {
+            below = omega (arith, l, n);
+            room = h;
+            after = stored-known h;
+            counted = known .counted;
+            few = known .few;
+            listed = known .listed;
+          };
         }

@@ -4,6 +4,7 @@ use mathlib.Core.Path.{_≡_, refl, sym, ap, ap₂, _∙_}
 use mathlib.Core.Bool.{Bool, true, false, cond, false≢true}
 use mathlib.Core.List.{List, List·Memᴰ}
 use Prim.Native.Nat.{ℕ, suc, _+_, _*_, _≤_}
+use native.Mathlib.Numerals.{add-one}
 use borrow.Author.Tests.{leb-true, leb-false, lt-ltb, le-ltb}
 use lib.Dec.{leb}
 use lib.ListN.{length, take}
@@ -19,7 +20,8 @@ use Rattle.form.specs.Text.{Bytes}
 use Rattle.record.specs.Records.{eventIn}
 use Rattle.book.specs.declared.Book.{Book}
 use Rattle.state.specs.declared.State.{State}
-use Rattle.state.specs.States.{stateOf, viewState}
+use Rattle.packed.specs.Held.{heldIn}
+use Rattle.state.specs.States.{stateOf}
 use Rattle.sound.specs.Soundness.{bookSound}
 use Rattle.sound.proofs.Soundness.{book-counts}
 use Rattle.rows.specs.Valuations.{valuationsIn}
@@ -28,7 +30,7 @@ use Rattle.row.specs.RowBytes.{rowSize, rowBytes}
 use Rattle.row.proofs.RowBytes.{row-wide}
 use Rattle.tally.specs.declared.Tally.{Tally}
 use Rattle.tally.specs.Tallies.{tallied}
-use Rattle.calls.specs.Calls.{isAccepted, rowsBy, stateBy, unsound, outOfForm, tooMany, noRoom, noSpace, decisions, answerTo, taken, bufferAfter}
+use Rattle.calls.specs.Calls.{isAccepted, rowsBy, unsound, outOfForm, tooMany, noRoom, noSpace, decisions, answerTo, taken, bufferAfter}
 use Rattle.transition.specs.declared.Stepped.{Stepped}
 use Rattle.transition.specs.Moves.{Moved, Decided}
 use Rattle.calls.specs.declared.EventAnswer.{EventAnswer}
@@ -61,7 +63,7 @@ abbrev stepAnswer : Book → State → Bytes → EventAnswer
 stepAnswer b s r = firstFailing Accepted (decisions b s r)
 
 -- the pure step accepts where none of its checks fails
-pub step-passed : (b : Book) (s : State) (r : Bytes) {x : Stepped} {words : List ℕ} → Decided b s (eventIn r) (decisions b s r) x words
+pub step-passed : (b : Book) (s : State) (r : Bytes) {x : Stepped} {at next out : List ℕ} → Decided b s (eventIn r) (decisions b s r) x at next out
     → x .accepted ≡ true → isAccepted (stepAnswer b s r) ≡ true
 step-passed b s r d h = sym (ap isAccepted (d .first)) ∙ sym (d .flag) ∙ h
 
@@ -105,15 +107,18 @@ module _ (b : Book) (s : State) (r buffer : Bytes) (place : ℕ) where
       → (x ≡ taken b s r buffer place t) × (buffer ≡ bufferAfter b s r buffer place)
   ends-refused t f h = ends-not t (answer-refused (sym (ap isAccepted f) ∙ h) ∙ sym f) h
 
-  -- the state after an accepted event and the words that hold its rows
-  module _ (passed : isAccepted (stepAnswer b s r) ≡ true) (next : State) (n : ℕ) (words : List ℕ) (moved : Moved b s (eventIn r) next n words) where
+  -- the words that hold the state after an accepted event, and those that hold its rows
+  module _ (passed : isAccepted (stepAnswer b s r) ≡ true) (x : Stepped) (at next words : List ℕ) (moved : Moved b s (eventIn r) x at next words) where
+    abbrev n : ℕ
+    n = x .rows
+
     -- the answer is that of the buffer's check, by what that finds
-    told : {x : Bool} → noSpace b s r buffer place ≡ x → answerTo b s r buffer place ≡ cond x NoSpace Accepted
-    told e = answer-passed passed ∙ ap (λ x. cond x NoSpace Accepted) e
+    told : {z : Bool} → noSpace b s r buffer place ≡ z → answerTo b s r buffer place ≡ cond z NoSpace Accepted
+    told e = answer-passed passed ∙ ap (λ z. cond z NoSpace Accepted) e
 
     -- refused by the buffer's check
-    ends-short : (t : Tally) → leb (place + rowSize * n) (length buffer) ≡ false → {x : Taken} → x ≡ refusal t NoSpace
-        → (x ≡ taken b s r buffer place t) × (buffer ≡ bufferAfter b s r buffer place)
+    ends-short : (t : Tally) → leb (place + rowSize * n) (length buffer) ≡ false → {y : Taken} → y ≡ refusal t NoSpace
+        → (y ≡ taken b s r buffer place t) × (buffer ≡ bufferAfter b s r buffer place)
     unfolding noSpace
     ends-short t h =
         let k = leb-false (place + rowSize * n) (length buffer) h in
@@ -126,10 +131,6 @@ module _ (b : Book) (s : State) (r buffer : Bytes) (place : ℕ) where
         let k = leb-true (place + rowSize * n) (length buffer) h in
         told (le-ltb (length buffer) (place + rowSize * length its-rows) (rw (← moved .counted) k))
 
-    next-number : next .number ≡ suc (s .number)
-    unfolding stateBy stateOf viewState
-    next-number = ap (λ x. x .number) (moved .after)
-
     -- a row has at most four values, as the words that hold it
     row-few : (σ : Valuation) → List·Memᴰ σ its-rows → length σ ≤ 4
     unfolding wideValuation
@@ -137,34 +138,44 @@ module _ (b : Book) (s : State) (r buffer : Bytes) (place : ℕ) where
         let among = mem-map wideValuation (wideValuation σ) its-rows .1 (σ, m, refl) in
         pad-few 4 0 σ (Words.wide-in words (wideValuation σ) (mem-take n (rw (moved .listed) among)))
 
-    rows-written : gather (rowBytes (next .number) (b .variables)) (take n (valuationsIn words))
+    rows-written : gather (rowBytes (s .number + 1) (b .variables)) (take n (valuationsIn words))
         ≡ gather (rowBytes (suc (s .number)) (b .variables)) its-rows
     unfolding wideValuation
     rows-written =
         let f = rowBytes (suc (s .number)) (b .variables) in
-        ap₂ (λ k x. gather (rowBytes k (b .variables)) x) next-number (moved .listed) ∙ gather-map f wideValuation its-rows
+        ap₂ (λ k z. gather (rowBytes k (b .variables)) z) (add-one (s .number)) (moved .listed) ∙ gather-map f wideValuation its-rows
         ∙ gather-agree (λ σ. f (wideValuation σ)) f its-rows (λ σ m. row-wide (suc (s .number)) (b .variables) σ (row-few σ m))
 
+    -- what `outcome::settled` hands back and writes where the rows fit
+    abbrev settling : Tally → Taken
+    settling t =
+        record {
+          answer = Accepted;
+          rows = n;
+          book = b;
+          state = stateOf (record { number = s .number + 1; held = heldIn (x .held) at next });
+          tally = tallied t 1 0 n;
+        }
+
+    abbrev writing : Bytes
+    writing = splice place (gather (rowBytes (s .number + 1) (b .variables)) (take n (valuationsIn words))) buffer
+
     -- accepted
-    ends-accepted : (t : Tally) → leb (place + rowSize * n) (length buffer) ≡ true
-        → {x : Taken} → x ≡ record { answer = Accepted; rows = n; book = b; state = next; tally = tallied t 1 0 n }
-        → {out : Bytes} → out ≡ splice place (gather (rowBytes (next .number) (b .variables)) (take n (valuationsIn words))) buffer
-        → (x ≡ taken b s r buffer place t) × (out ≡ bufferAfter b s r buffer place)
+    ends-accepted : (t : Tally) → leb (place + rowSize * n) (length buffer) ≡ true → {y : Taken} → y ≡ settling t → {out : Bytes} → out ≡ writing
+        → (y ≡ taken b s r buffer place t) × (out ≡ bufferAfter b s r buffer place)
     unfolding taken bufferAfter
     ends-accepted t h e f =
         let a = accepted h in
         (e ∙ rw (a, ← moved .counted, ← moved .after), f ∙ rw (a, rows-written))
 
-    -- what `outcome::settled` hands back, by its test for space
-    pub ends-settled : (t : Tally) {x : Taken} {out : Bytes} → let fits = leb (place + rowSize * n) (length buffer) in
-        x ≡ cond fits (record { answer = Accepted; rows = n; book = b; state = next; tally = tallied t 1 0 n }) (refusal t NoSpace)
-        → out ≡ cond fits (splice place (gather (rowBytes (next .number) (b .variables)) (take n (valuationsIn words))) buffer) buffer
-        → (x ≡ taken b s r buffer place t) × (out ≡ bufferAfter b s r buffer place)
-    ends-settled t {x} {out} = go (leb (place + rowSize * n) (length buffer)) refl
+    -- what it hands back, by its test for space
+    pub ends-settled : (t : Tally) {y : Taken} {out : Bytes} → let fits = leb (place + rowSize * n) (length buffer) in
+        y ≡ cond fits (settling t) (refusal t NoSpace) → out ≡ cond fits writing buffer
+        → (y ≡ taken b s r buffer place t) × (out ≡ bufferAfter b s r buffer place)
+    ends-settled t {y} {out} = go (leb (place + rowSize * n) (length buffer)) refl
       where
         go : (fits : Bool) → leb (place + rowSize * n) (length buffer) ≡ fits
-            → x ≡ cond fits (record { answer = Accepted; rows = n; book = b; state = next; tally = tallied t 1 0 n }) (refusal t NoSpace)
-            → out ≡ cond fits (splice place (gather (rowBytes (next .number) (b .variables)) (take n (valuationsIn words))) buffer) buffer
-            → (x ≡ taken b s r buffer place t) × (out ≡ bufferAfter b s r buffer place)
+            → y ≡ cond fits (settling t) (refusal t NoSpace) → out ≡ cond fits writing buffer
+            → (y ≡ taken b s r buffer place t) × (out ≡ bufferAfter b s r buffer place)
         go true h e f = ends-accepted t h e f
         go false h e f = let k = ends-short t h e in (k .0, f ∙ k .1)

@@ -35,10 +35,22 @@ pub fn event(
         × (isBytes (now (bytes .entry)) ≡ true) ⌝ }
 {
     let mut words = [0u32; rows::WORDS];
-    let s = transition::step(book, state, bytes, &mut words);
+    let mut next_at = [0u32; state::CAPACITY];
+    let mut next = [0u32; packed::WORDS];
+    let s = transition::step(book, state, bytes, &mut next_at, &mut next, &mut words);
     if s.accepted {
-        let next = s.state;
-        return outcome::settled(book, state, next, &words, s.rows, rows, place, tally);
+        return outcome::settled(
+            book,
+            state,
+            &next_at,
+            &next,
+            s.held,
+            &words,
+            s.rows,
+            rows,
+            place,
+            tally,
+        );
     }
     let answer = s.answer;
     outcome::refused(answer, book, state, tally)

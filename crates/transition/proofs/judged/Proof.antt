@@ -1,5 +1,5 @@
--- `transition::judged` meets its contract: the lent words hold what the state holds, made wide, so that each test is that of a check, and what is
--- stored is the state after the event.
+-- `transition::judged` meets its contract: the lent words hold what the state holds, made wide, so that each test is that of a check, and what they
+-- hold then is the state after the event.
 use mathlib.Core.Path.{refl}
 use native.Mathlib.Omega.{arith}
 use borrow.Author.Needs.{needs}
@@ -59,20 +59,13 @@ returns-3 c =
     (judged-none _ _ _ (free-known _ _ _ _ _ _ _ left (bound .if1 .left)) (few .if2 .left) (no-room _ _ _ _ _ _ _ left (c .before .if3 .taken)))
     refl (c .refusal3 .ensures)
 
-add-store : tie.Need-add-store
-add-store c = omega (arith, state-number _ _ (begun (c .before .before .before .before .before .before) .pre .1))
-
-store-requires : tie.Need-store-requires
-store-requires c κs = search needs
-
 returns-4 : tie.Need-returns-4
 returns-4 c =
-    let room = c .before .before .before .before in
-    let few = room .before .before in
+    let few = c .before .before in
     let bound = few .before .before in
     let t = bound .before in
     let left = t .take-event .ensures (holding _ _ (begun t .pre .1) _ _ (loaded t .load .ensures)) in
-    accepted-by _ _ _ _ _ _ _ left (bound .if1 .left) (few .if2 .left) (room .if3 .left) (c .store .ensures)
+    accepted-by _ _ _ _ _ _ _ left (bound .if1 .left) (state-number _ _ (begun t .pre .1)) (few .if2 .left) (c .if3 .left)
 
 pub judged-spec : {M : Type 1} → statement M
 judged-spec =
@@ -86,6 +79,4 @@ judged-spec =
     returns-2
     refusal-requires-3
     returns-3
-    add-store
-    store-requires
     returns-4)

@@ -16,9 +16,13 @@ sound-state-requires c κs = book-counts _ (sym (c .before .sound-book .ensures)
 decode-requires : tie.Need-decode-requires
 decode-requires c κs = search needs
 
+-- the stop before the words are lent on: the record is in form
+abbrev lent-on : tie.After-judged-arg3 → tie.Then3
+lent-on c = c .before .before .before .before
+
 judged-requires : tie.Need-judged-requires
 judged-requires c κs =
-    let form = c .before .before in
+    let form = lent-on c in
     let state = form .before .before in
     let book = state .before .before in (
       sym (book .before .sound-book .ensures) ∙ book .if1 .taken,
@@ -28,7 +32,7 @@ judged-requires c κs =
 
 returns : tie.Need-returns
 returns c =
-    let form = c .before .before .before in
+    let form = lent-on (c .before) in
     let state = form .before .before in
     let book = state .before .before in
     decided-record _ _ (form .before .decode .ensures) (form .if3 .taken) _ _ (sym (book .before .sound-book .ensures) ∙ book .if1 .taken)

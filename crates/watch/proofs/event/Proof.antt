@@ -19,11 +19,19 @@ beside (a, b) c = (a, b, c)
 step-requires : tie.Need-step-requires
 step-requires c κs = search needs
 
+-- the stops before the rest is settled: the step accepts; and, before the step, the record is known
+abbrev passing : tie.After-settled-arg → tie.Then1
+passing c = c .before .before .before .before
+
+abbrev known : tie.After-step → tie.After-shared-slice-known
+known c = c .before .before .before .before .before
+
 settled-requires : tie.Need-settled-requires
 settled-requires c κs =
-    let passed = c .before .before .before in
+    let passed = passing c in
     let step = passed .before .step .ensures in
-    (passed-variables _ _ _ (step-passed _ _ _ step (passed .if1 .taken)), step .moved (passed .if1 .taken) .few)
+    let moved = step .moved (passed .if1 .taken) in
+    (passed-variables _ _ _ (step-passed _ _ _ step (passed .if1 .taken)), moved .few, moved .room, moved .below)
 
 same-length : tie.Need-same-length
 same-length c = search needs
@@ -31,12 +39,11 @@ same-length c = search needs
 returns : tie.Need-returns
 returns c =
     let called = c .before .before in
-    let passed = called .before .before .before .before in
-    let stepped = passed .before in
-    let step = stepped .step .ensures in
+    let passed = passing (called .before) in
+    let step = passed .before .step .ensures in
     let done = called .settled .ensures in
-    beside (ends-settled _ _ _ _ _ (step-passed _ _ _ step (passed .if1 .taken)) _ _ _ (step .moved (passed .if1 .taken)) _ (done .0) (done .1))
-    (lent (stepped .before .before .before))
+    beside (ends-settled _ _ _ _ _ (step-passed _ _ _ step (passed .if1 .taken)) _ _ _ _ (step .moved (passed .if1 .taken)) _ (done .0) (done .1))
+    (lent (known (passed .before)))
 
 refused-requires : tie.Need-refused-requires
 refused-requires c κs = search needs
@@ -45,7 +52,7 @@ returns-2 : tie.Need-returns-2
 returns-2 c =
     let stepped = c .before .before in
     let step = stepped .step .ensures in
-    beside (ends-refused _ _ _ _ _ _ (step .first) (sym (step .flag) ∙ c .before .if1 .left) (c .refused .ensures)) (lent (stepped .before .before .before))
+    beside (ends-refused _ _ _ _ _ _ (step .first) (sym (step .flag) ∙ c .before .if1 .left) (c .refused .ensures)) (lent (known stepped))
 
 pub event-spec : {M : Type 1} → statement M
 event-spec =
