@@ -41,13 +41,15 @@ module _ (b : Book) (σ : Valuation) where
 
 -- the book itself, or the same where no match begins: it is a book too
 abbrev pub limited : Bool → Book → Book
-limited may b = startingAt (cond may (b .begins) 0) b
+limited starts b = startingAt (cond starts (b .begins) 0) b
 
--- the state after an accepted event, where `may` tells the numbers of the events that may begin a match
+-- the state after an accepted event, where `may` tells the numbers of the events that may begin a match: all numbers today; later those up to some
+-- number (first events), or after some number (a book that begins later, or begins no more)
 abbrev pub nextBy : (may : ℕ → Bool) → Book → State → Event → State
 nextBy may b s e = Labels.next (limited (may (suc (s .number))) b) s e
 
--- where the paths stand after a trace, whose newest event comes first; `may` tells the numbers of the events that may begin one
+-- where the paths stand after a trace, whose newest event comes first; `may` tells the numbers of the events that may begin one,
+-- as above
 abbrev pub reached : (may : ℕ → Bool) → Book → Valuation → List Event → ℕ → Bool
 reached may b σ [] p = false
 reached may b σ (e ∷ t) p = moves (limited (may (suc (length t))) b) σ (reached may b σ t) e p

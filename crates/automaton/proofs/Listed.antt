@@ -7,30 +7,23 @@ use mathlib.Core.Logic.{_↔_, Iff·trans}
 use Prim.Native.Nat.{ℕ, suc, _+_, _-_, _<_}
 use native.Mathlib.Omega.{arith}
 use lib.Dec.{eqb}
-use lib.ListN.{length, getD, take, length-reverse, length-map}
+use lib.ListN.{length, getD, take, length-reverse}
 use lib.Seq.{getD-append-seam, getD-take}
 use borrow.Author.Tests.{eqb-true}
 use Rattle.laws.specs.Lists.{all}
 use Rattle.laws.proofs.Lists.{all-take, and-true-split}
-use Rattle.runs.proofs.Accepted.{as-many}
 use Rattle.meaning.specs.Events.{Event, Valuation, wellFormed, isValuation, concerns}
 use Rattle.meaning.specs.Meaning.{Tracematch, noEvent, Row}
 use Rattle.meaning.specs.Book.{Book, bookOf, Proper}
 use Rattle.meaning.specs.Labels.{Held, newHeld, fresh, freshAt}
 use Rattle.meaning.specs.Rows.{rows}
-use Rattle.meaning.specs.Runs.{Call, wasTaken, traceOf, plainMachine, run, heldAfter, rowLists, Listed}
+use Rattle.meaning.specs.Runs.{Call, traceOf, run, heldAfter, rowLists, Listed}
 use Rattle.automaton.proofs.Members.{rows-ascending}
 use Rattle.automaton.proofs.Plain.{run-held, AtEvent, at-event}
 use Rattle.automaton.proofs.Automaton.{limited, nextBy, MatchFrom, completed-match, match-valuation, match-prefix}
 use Rattle.automaton.proofs.Reduced.{reduced-match}
 use Rattle.automaton.proofs.Bound.{none-left-free-by}
 use Rattle.automaton.proofs.Tracks.{tracked, row-width, row-completes, completes-row}
-
--- a row list for each accepted event
-pub rowLists-length : (tm : Tracematch) (cs : List Call) → length (rowLists tm cs) ≡ length (traceOf cs)
-rowLists-length tm cs =
-    let m = plainMachine (newHeld (bookOf tm)) (rows (bookOf tm)) in
-    rw (length-map, length-map) (as-many m (λ r. wasTaken (r .call)) wasTaken (λ s c. refl) [] cs)
 
 valuation-length : (n : ℕ) (σ : Valuation) → isValuation n σ ≡ true → length σ ≡ n
 unfolding isValuation

@@ -22,9 +22,12 @@ use Rattle.form.specs.Text.{Bytes, Declarations, tracematchOf}
 use Rattle.form.specs.Form.{Form}
 use Rattle.record.specs.Records.{isRecord, eventIn}
 use Rattle.book.specs.Books.{reading}
+use Rattle.book.specs.declared.Book.{Book}
+use Rattle.state.specs.declared.State.{State}
 use Rattle.state.proofs.Words.{vacant}
 use Rattle.calls.specs.Answers.{numberOf}
-use Rattle.calls.specs.Runs.{Lent, Call, Made, allBytes, runOf, acceptedIn, recordsOf, traceOf, Delivered, heldAfter, TooShort, Judged}
+use Rattle.calls.specs.Calls.{taken, bufferAfter}
+use Rattle.calls.specs.Runs.{Lent, Call, event, Made, make, allBytes, runOf, acceptedIn, recordsOf, traceOf, Delivered, heldAfter, TooShort, Judged}
 use Rattle.calls.specs.Runs.{Partners, InOrder, Crossed}
 use Rattle.calls.specs.Demands.{Demands}
 use Rattle.demands.proofs.Checks.{through, FourRules}
@@ -70,6 +73,17 @@ pub rules-said : (b : Plain.Book) (held : List Held) (e : Event)
     × ((D : Disjunct) × List·Memᴰ D (through b held e p k) × ((x : Entry) × List·Memᴰ x D × (6 < length (exclusions x)))))
     ⊎ (128 < length (newHeld b held e)))))
 rules-said b held e = refl
+
+-- a call in a state: what it lends, what is handed back, and what is left in the buffer
+pub make-said : (b : Book) (s : State) (l : Lent)
+    → make b s (event l)
+    ≡ record {
+      lent = l;
+      taken = taken b s (l .bytes) (l .buffer) (l .place) (l .tally);
+      buffer = bufferAfter b s (l .bytes) (l .buffer) (l .place);
+    }
+unfolding make
+make-said b s l = refl
 
 -- all that is promised of a text with answer 0 (theorem `demands`)
 pub demands-said : (text : Bytes) (d : Declarations) (r : Regex)

@@ -1,26 +1,27 @@
 -- The words of the theorems on plain data (crate automaton) and of `positions`, `positions-left` (crate pattern), each with its text, so that no
 -- such statement can get weaker with no call moving.
 use mathlib.Core.Path.{_≡_, refl}
-use mathlib.Core.Bool.{true, false, cond, _&&_, false≢true}
+use mathlib.Core.Bool.{true, false, cond, not, _&&_, false≢true}
 use mathlib.Core.List.{List, [], _∷_, map, List·Memᴰ}
 use mathlib.Core.Logic.{_↔_, _⊎_, inl, inr, ⊎-elim}
-use Prim.Native.Nat.{ℕ, _+_, _^_, _≤_, _<_}
-use lib.Dec.{leb, ltb}
+use Prim.Native.Nat.{ℕ, suc, _+_, _^_, _≤_, _<_, compare}
+use lib.Dec.{eqb, leb, ltb}
 use lib.ListN.{length, getD}
 use Rattle.laws.specs.Bits.{bit}
-use Rattle.laws.specs.Lists.{any, all}
+use Rattle.laws.specs.Lists.{any, all, keep}
 use Rattle.laws.specs.Order.{ascending}
 use Rattle.runs.specs.Runs.{noCall, nextCall}
 use Rattle.runs.specs.Pairs.{Pairing}
 use Rattle.pattern.specs.Regex.{Regex, lit, cat, alt, star, plus, opt, In}
 use Rattle.pattern.specs.Positions.{size, symbols, beginning, ending, following, symbolAt, Has, Onward, stop, on, Spelling, Reach, start, next}
-use Rattle.meaning.specs.Events.{Event, Valuation, wellFormed, isValuation, concerns}
-use Rattle.meaning.specs.Meaning.{Tracematch, noSymbol, Row}
-use Rattle.meaning.specs.Book.{Book, bookOf, binds, soundSymbol, Proper}
+use Rattle.meaning.specs.Events.{ignored, names, Symbol, Event, Valuation, wellFormed, isValuation, concerns, constraintOf}
+use Rattle.meaning.specs.Meaning.{Tracematch, noSymbol, concerning, Row}
+use Rattle.meaning.specs.Book.{Book, bookOf, positions, endsAt, symbolOf, binds, soundParameter, soundSymbol, soundMask, soundBook, Proper}
 use Rattle.meaning.specs.Labels as Labels
-use Rattle.meaning.specs.Labels.{State, fresh, newHeld}
+use Rattle.meaning.specs.Labels.{bound, free, isFree, meets, met, sources, Disjunct, Held, compareHeld, newHeld, State, freshAt, fresh}
 use Rattle.meaning.specs.Room.{room}
-use Rattle.meaning.specs.Rows.{rows, compareValuations}
+use Rattle.meaning.specs.Rows.{rows, compareValuations, leavesFree}
+use Rattle.meaning.specs.Sound.{soundEntry, soundDisjunct, soundPiece, soundHeld, soundState}
 use Rattle.meaning.specs.Runs.{Call, event, traceOf, run, given, stateAfter, heldAfter, rowLists, OrderlyFrom, Orderly, Listed, Dependent, Ordered}
 
 pub listed-said : (tm : Tracematch) (t : List Event) (n : ℕ) (l : List Valuation)
@@ -54,6 +55,26 @@ pub well-formed-said : (e : Event)
     → wellFormed e ≡ (leb 1 (e .kind) && leb (e .kind) 255 && leb (length (e .args)) 4 && all (λ x. ltb x (2 ^ 32)) (e .args))
 unfolding wellFormed
 well-formed-said e = refl
+
+pub concerning-said : (tm : Tracematch) (σ : Valuation) (t : List Event) → concerning tm σ t ≡ keep (λ e. concerns (tm .symbols) e σ) t
+concerning-said tm σ t = refl
+
+-- the state in which nothing is held
+pub fresh-said : (n : ℕ) → (fresh ≡ record { number = 0; held = [] }) × (freshAt n ≡ record { number = n; held = [] })
+fresh-said n = (refl, refl)
+
+-- an accepted event counts, and changes what is held
+pub next-said : (b : Book) (s : State) (e : Event)
+    → Labels.next b s e ≡ record { number = suc (s .number); held = newHeld b (s .held) e }
+next-said b s e = refl
+
+-- some disjunct that an ending position gets meets the event's constraint and leaves a variable free
+pub leaves-free-said : (b : Book) (held : List Held) (e : Event)
+    → leavesFree b held e
+    ≡ any (λ q. any (λ D. meets D (constraintOf (symbolOf b q) e) && any isFree (met D (constraintOf (symbolOf b q) e))) (sources b held q))
+    (keep (endsAt b) (positions b))
+unfolding leavesFree
+leaves-free-said b held e = refl
 
 -- a plain run: accepted events move the state and give something, refused ones do neither
 pub plain-run-said : {S R : Type 0} (step : S → Event → S) (give : S → Event → R) (s : S) (e : Event) (cs : List Call)
@@ -98,6 +119,30 @@ proper-said tm = (
   λ (a, b, c, d, e, f, g, h).
       record { variables = a; some = b; few = c; symbols = d; declared = e; occurrences = f; nonempty = g; binding = h },
 )
+
+-- a sound symbol, a sound set of positions and a sound plain book
+pub sound-book-said : (b : Book) (s : Symbol) (n v m : ℕ)
+    → (soundParameter n ignored ≡ true) × (soundParameter n (names v) ≡ ltb v n)
+    × (soundSymbol n s ≡ (leb 1 (s .kind) && leb (s .kind) 255 && leb (length (s .parameters)) 4 && all (soundParameter n) (s .parameters)))
+    × (soundMask n m ≡ (ltb m (2 ^ suc n) && not (bit 0 m)))
+    × (soundBook b
+    ≡ (leb (b .variables) 4 && leb 1 (length (b .symbols)) && leb (length (b .symbols)) 16 && all (soundSymbol (b .variables)) (b .symbols)
+    && leb 1 (length (b .occurrences)) && leb (length (b .occurrences)) 31 && all (λ a. ltb a (length (b .symbols))) (b .occurrences)
+    && soundMask (length (b .occurrences)) (b .begins) && soundMask (length (b .occurrences)) (b .ends)
+    && eqb (length (b .follows)) (length (b .occurrences)) && all (soundMask (length (b .occurrences))) (b .follows) && not (b .empty)))
+unfolding soundSymbol soundBook
+sound-book-said b s n v m = (refl, refl, refl, refl, refl)
+
+-- a sound entry, disjunct, held disjunct and plain state
+pub plain-sound-said : (b : Book) (h : Held) (held : List Held) (s : State) (D : Disjunct) (n a : ℕ) (xs : List ℕ)
+    → (soundEntry (bound a) ≡ ltb a (2 ^ 32))
+    × (soundEntry (free xs) ≡ (leb (length xs) 6 && all (λ x. ltb x (2 ^ 32)) xs && ascending compare xs))
+    × (soundDisjunct n D ≡ (eqb (length D) n && all soundEntry D))
+    × (soundPiece b h ≡ (leb 1 (h .position) && leb (h .position) (length (b .occurrences)) && soundDisjunct (b .variables) (h .disjunct)))
+    × (soundHeld b held ≡ (leb (length held) 128 && all (soundPiece b) held && ascending compareHeld held))
+    × (soundState b s ≡ (leb (s .number) 1000000 && soundHeld b (s .held)))
+unfolding soundPiece soundHeld soundState
+plain-sound-said b h held s D n a xs = (refl, refl, refl, refl, refl, refl)
 
 pub symbol-at-said : (r s : Regex) (a k p : ℕ)
     → (symbolAt (lit a) k p ≡ a) × (symbolAt (cat r s) k p ≡ cond (ltb p (k + size r)) (symbolAt r k p) (symbolAt s (k + size r) p))

@@ -24,7 +24,7 @@ use Rattle.state.specs.declared.State.{State}
 use Rattle.row.specs.RowBytes.{rowSize, numberSize, rowBytes}
 use Rattle.tally.specs.declared.Tally.{Tally}
 use Rattle.tally.specs.Tallies.{tallied}
-use Rattle.calls.specs.Answers.{numberOf}
+use Rattle.calls.specs.Answers.{numberOf, tenToThirteen}
 use Rattle.calls.specs.Calls.{isAccepted, taken, bufferAfter, freshState}
 use Rattle.calls.specs.declared.EventAnswer.{EventAnswer}
 use Rattle.calls.specs.declared.EventAnswer.the-variants.{Accepted, Unsound, OutOfForm, TooMany, NoRoom, NoSpace}
@@ -134,7 +134,7 @@ module _ (tm : Tracematch) (t : List Event) (l : Lent) where
 
   -- n is the number of the answer: "Events: 9 to 13 in that order", and never 9
   pub record Judged (n : ℕ) : Type 0 where
-    pub first : FirstToFail FailsAfter PassesAfter numberOf 0 (OutOfForm ∷ TooMany ∷ NoRoom ∷ NoSpace ∷ []) n
+    pub first : FirstToFail FailsAfter PassesAfter numberOf 0 tenToThirteen n
 
 -- "Partners are accepted events with the same 20 bytes, one in each run; each accepted event has exactly one partner." Records of
 -- the accepted calls, counted from 0.

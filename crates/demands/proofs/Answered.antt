@@ -36,7 +36,7 @@ use Rattle.parsing.proofs.Accepted.{form-proper}
 use Rattle.record.specs.Records.{isRecord, eventIn}
 use Rattle.book.specs.Books.{reading}
 use Rattle.row.specs.RowBytes.{rowSize}
-use Rattle.calls.specs.Answers.{numberOf}
+use Rattle.calls.specs.Answers.{numberOf, tenToThirteen}
 use Rattle.calls.specs.Calls.{freshState}
 use Rattle.calls.specs.Runs.{Call, Made, Lent, lentAt, allBytes, watching, runOf, traceOf, heldAfter}
 use Rattle.calls.specs.Runs.{TooShort, beyond, over, FailsAfter, PassesAfter, Judged}
@@ -102,8 +102,8 @@ module _ (tm : Tracematch) (ok : Proper tm) (cs : List Runs.Call) (good : all we
   judged l w a d = record { first = first-named numberOf (go (d .first)) }
     where
       -- a record in form holds an event that is well formed
-      go : {a : EventAnswer} → FirstToFail (FailsIn tm behind l) (PassesIn tm behind l) (λ x. x) Accepted (OutOfForm ∷ TooMany ∷ NoRoom ∷ NoSpace ∷ []) a
-          → FirstToFail (FailsAfter tm trace l) (PassesAfter tm trace l) (λ x. x) Accepted (OutOfForm ∷ TooMany ∷ NoRoom ∷ NoSpace ∷ []) a
+      go : {a : EventAnswer} → FirstToFail (FailsIn tm behind l) (PassesIn tm behind l) (λ x. x) Accepted tenToThirteen a
+          → FirstToFail (FailsAfter tm trace l) (PassesAfter tm trace l) (λ x. x) Accepted tenToThirteen a
       go (failsHere x) = failsHere x
       go (failsLater x r) = failsLater x (first-told (fails-told l (w x)) (passes-told l (w x)) r)
 

@@ -2,7 +2,7 @@
 -- steady plain state is decided by the definitions of the crate meaning. For Course.
 use mathlib.Core.Path.{_≡_, refl, ap, ap₂}
 use mathlib.Core.Bool.{true, false, _&&_, and-eq-true-iff, and-true, and-false}
-use mathlib.Core.List.{List, [], _∷_, map, List·Memᴰ, List·Memᴰ·head, List·Memᴰ·tail}
+use mathlib.Core.List.{List, map, List·Memᴰ, List·Memᴰ·head, List·Memᴰ·tail}
 use Prim.Native.Nat.{ℕ, _+_, _*_, _≤_, _<_}
 use native.Mathlib.Omega.{arith}
 use borrow.Author.Tests.{leb-true, le-leb}
@@ -39,6 +39,7 @@ use Rattle.state.specs.States.{stateOf, heldFirst, viewState}
 use Rattle.state.proofs.States.{view-state}
 use Rattle.sound.specs.Soundness.{symbolCounts, namePlaced, bookCounts, bookSound, stateSound}
 use Rattle.row.specs.RowBytes.{rowSize}
+use Rattle.calls.specs.Answers.{tenToThirteen}
 use Rattle.calls.specs.declared.EventAnswer.{EventAnswer}
 use Rattle.calls.specs.declared.EventAnswer.the-variants.{Accepted, Unsound, OutOfForm, TooMany, NoRoom, NoSpace}
 use Rattle.calls.specs.Runs.{Lent, Made, wasAccepted}
@@ -126,11 +127,11 @@ module _ (tm : Tracematch) (s : State) (l : Lent) where
 
   -- the answer to the call
   pub record Decision (a : EventAnswer) : Type 0 where
-    pub first : FirstToFail FailsIn PassesIn (λ x. x) Accepted (OutOfForm ∷ TooMany ∷ NoRoom ∷ NoSpace ∷ []) a
+    pub first : FirstToFail FailsIn PassesIn (λ x. x) Accepted tenToThirteen a
 
   -- what acceptance says: all of them pass
   pub all-pass : {a : EventAnswer} → Decision a → isAccepted a ≡ true → (k : EventAnswer)
-      → List·Memᴰ k (OutOfForm ∷ TooMany ∷ NoRoom ∷ NoSpace ∷ []) → PassesIn k
+      → List·Memᴰ k tenToThirteen → PassesIn k
   all-pass d h = first-passed isAccepted (d .first) refl h
 
   pub in-form : {a : EventAnswer} → Decision a → isAccepted a ≡ true → isRecord (l .bytes) ≡ true

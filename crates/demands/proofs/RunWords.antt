@@ -2,7 +2,7 @@
 -- 01's "Crossed messages" and demand 2.
 use mathlib.Core.Path.{_≡_, refl, ap}
 use mathlib.Core.Bool.{true, false}
-use mathlib.Core.List.{List, [], _∷_, _++_, map, List·Memᴰ}
+use mathlib.Core.List.{List, [], _∷_, _++_, map, map-map, List·Memᴰ}
 use mathlib.Core.Logic.{_↔_, _⊎_, inl, inr, ⊎-elim}
 use Prim.Native.Nat.{ℕ, suc, _+_, _-_, _*_, _≤_, _<_}
 use native.Mathlib.Omega.{arith}
@@ -29,11 +29,10 @@ use Rattle.row.specs.RowBytes.{rowBytes}
 use Rattle.tally.specs.Tallies.{tallied}
 use Rattle.book.specs.declared.Book.{Book}
 use Rattle.state.specs.declared.State.{State}
-use Rattle.calls.specs.Answers.{numberOf}
+use Rattle.calls.specs.Answers.{numberOf, tenToThirteen}
 use Rattle.calls.specs.Calls.{freshState, taken, bufferAfter}
 use Rattle.calls.specs.Runs.{Lent, Call, event, lentAt, allBytes, Made, make, runFrom, runOf, acceptedIn, recordsOf, traceOf, Delivered}
 use Rattle.calls.specs.Runs.{heldAfter, TooShort, beyond, over, FailsAfter, PassesAfter, Judged}
-use Rattle.calls.specs.declared.EventAnswer.the-variants.{OutOfForm, TooMany, NoRoom, NoSpace}
 use Rattle.calls.specs.Runs.{Partners, InOrder, Crossed}
 use Rattle.demands.proofs.Checks.{accepted-zero, refused-number}
 
@@ -60,12 +59,8 @@ trace-words m ms = (
   λ h. rw (accepted-zero (m .taken .answer) h) refl,
   λ h. rw (refused-number (m .taken .answer) h) refl,
   refl,
-  together (acceptedIn ms),
+  map-map eventIn (λ m. m .lent .bytes) (acceptedIn ms),
 )
-  where
-    together : (l : List Made) → map eventIn (map (λ m. m .lent .bytes) l) ≡ map (λ m. eventIn (m .lent .bytes)) l
-    together [] = refl
-    together (m ∷ l) = ap (eventIn (m .lent .bytes) ∷_) (together l)
 
 -- what is asked of the calls of a run: that their records are bytes, and nothing else; which element of a list is meant
 pub bytes-words : (cs : List Call)
@@ -168,7 +163,7 @@ module _ (tm : Tracematch) (t : List Event) (l : Lent) where
   judged-words k = (λ j. forth (j .first), λ x. record { first = back x })
     where
       First : ℕ → Type 0
-      First n = FirstToFail (FailsAfter tm t l) (PassesAfter tm t l) numberOf 0 (OutOfForm ∷ TooMany ∷ NoRoom ∷ NoSpace ∷ []) n
+      First n = FirstToFail (FailsAfter tm t l) (PassesAfter tm t l) numberOf 0 tenToThirteen n
 
       forth : {k : ℕ} → First k → Answers k
       forth (failsHere h) = inl (refl, h)

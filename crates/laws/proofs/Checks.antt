@@ -11,14 +11,6 @@ use Rattle.laws.specs.Checks.{Check, firstFailing, FirstToFail, noneFail
 use Rattle.laws.specs.Lists.{any, all}
 use Rattle.laws.proofs.Lists.{and-true-split, or-false-split, either}
 
--- a check that fails answers; one that passes leaves the answer to those behind it
-module _ {A : Type 0} (otherwise : A) (c : Check A) (cs : List (Check A)) where
-  pub first-fails : c .fails ≡ true → firstFailing otherwise (c ∷ cs) ≡ c .answer
-  first-fails h = rw h
-
-  pub first-passes : c .fails ≡ false → firstFailing otherwise (c ∷ cs) ≡ firstFailing otherwise cs
-  first-passes h = rw h
-
 module _ {K N : Type 0} {Fails Passes : K → Type 0} {number : K → N} {otherwise : N} where
   -- no check both fails and passes: one answer at most
   pub first-once : ((k : K) → Fails k → Passes k → ⊥) → {ks : List K} {n m : N}

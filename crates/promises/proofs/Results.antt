@@ -2,7 +2,7 @@
 -- one tree, and whatever event calls follow, each in the state that the one before it left, their results keep demands 2 and 3.
 use mathlib.Core.Path.{_≡_, refl, sym, ap, ap₂, subst, _∙_}
 use mathlib.Core.Bool.{true, false, not, false≢true}
-use mathlib.Core.List.{List, [], _∷_, map}
+use mathlib.Core.List.{List, map}
 use mathlib.Core.Logic.{_↔_}
 use Prim.Native.Nat.{ℕ, suc, _+_, _-_, _*_, _≤_, _<_}
 use native.Mathlib.Omega.{arith}
@@ -27,9 +27,8 @@ use Rattle.book.specs.declared.Reading.{Reading}
 use Rattle.book.specs.Answers as Reading
 use Rattle.book.specs.Books.{reading}
 use Rattle.state.specs.declared.State.{State}
-use Rattle.calls.specs.Answers.{numberOf}
+use Rattle.calls.specs.Answers.{numberOf, tenToThirteen}
 use Rattle.calls.specs.Calls.{freshState}
-use Rattle.calls.specs.declared.EventAnswer.the-variants.{OutOfForm, TooMany, NoRoom, NoSpace}
 use Rattle.calls.specs.Runs.{Lent, Call, event, lentAt, Made, allBytes, make, watching, runFrom, runOf, acceptedIn, recordsOf, traceOf, Delivered}
 use Rattle.calls.specs.Runs.{FailsAfter, PassesAfter, Judged, Partners, InOrder, Crossed}
 use Rattle.demands.proofs.Checks.{fresh-state}
@@ -115,7 +114,7 @@ module _ (text : Bytes) (d : Declarations) (q : Regex) (f : Form text d q) where
   judged-ten : {t : List Event} {l : Lent} {n : ℕ} → Judged tmDeclared t l n → (n ≡ 10) ↔ (isRecord (l .bytes) ≡ false)
   judged-ten {t} {l} {n} j = go (j .first)
     where
-      go : {n : ℕ} → FirstToFail (FailsAfter tmDeclared t l) (PassesAfter tmDeclared t l) numberOf 0 (OutOfForm ∷ TooMany ∷ NoRoom ∷ NoSpace ∷ []) n
+      go : {n : ℕ} → FirstToFail (FailsAfter tmDeclared t l) (PassesAfter tmDeclared t l) numberOf 0 tenToThirteen n
           → (n ≡ 10) ↔ (isRecord (l .bytes) ≡ false)
       go (failsHere h) = (λ _. h, λ _. refl)
       go {n} (failsLater h r) =

@@ -17,3 +17,16 @@ pub row-words : (n v a b c d : ℕ)
     × (rowBytes n v (a ∷ b ∷ c ∷ d ∷ []) ≡ head ++ (word a ++ (word b ++ (word c ++ word d))))
 unfolding rowBytes bytesOf wordBytes pad
 row-words n v a b c d = (refl, refl, refl, refl, refl)
+
+-- the same of any fields, whatever stands in bytes 5 and 6
+pub fields-words : (n v x y a b c d : ℕ)
+    → let word : ℕ → List ℕ = λ z. z % 256 ∷ z / 256 % 256 ∷ z / 65536 % 256 ∷ z / 16777216 % 256 ∷ [] in
+    let head = word n ++ (v ∷ x ∷ y ∷ 0 ∷ []) in
+    let row : List ℕ → List ℕ = λ l. bytesOf (record { number = n; variables = v; fifth = x; sixth = y; values = l }) in
+    (row [] ≡ head ++ replicate 16 0)
+    × (row (a ∷ []) ≡ head ++ (word a ++ replicate 12 0))
+    × (row (a ∷ b ∷ []) ≡ head ++ (word a ++ (word b ++ replicate 8 0)))
+    × (row (a ∷ b ∷ c ∷ []) ≡ head ++ (word a ++ (word b ++ (word c ++ replicate 4 0))))
+    × (row (a ∷ b ∷ c ∷ d ∷ []) ≡ head ++ (word a ++ (word b ++ (word c ++ word d))))
+unfolding bytesOf wordBytes pad
+fields-words n v x y a b c d = (refl, refl, refl, refl, refl)

@@ -67,11 +67,6 @@ module _ {S C R : Type 0} (m : Machine S C R) where
   results-take s (suc k) [] = refl
   results-take s (suc k) (c ∷ cs) = let r = m .gives s c in ap (r ∷_) (results-take (m .leaves r) k cs)
 
-  -- some calls and then others
-  pub state-more : (s : S) (cs ds : List C) → stateFrom m s (cs ++ ds) ≡ stateFrom m (stateFrom m s cs) ds
-  state-more s [] ds = refl
-  state-more s (c ∷ cs) ds = state-more (m .leaves (m .gives s c)) cs ds
-
   -- the result in a place is that of the call there, in the state behind the calls before it
   pub result-at : (s : S) (cs : List C) (k : ℕ) (r : R) → Within (resultsFrom m s cs) k r
       → (c : C) × Within cs k c × (r ≡ m .gives (stateFrom m s (take k cs)) c)

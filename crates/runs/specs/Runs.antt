@@ -7,6 +7,11 @@ use Prim.Native.Nat.{ℕ, _<_}
 use lib.ListN.{length, getD}
 use Rattle.laws.specs.Lists.{keep}
 
+-- the state behind the events of a trace
+abbrev pub behindTrace : {S E : Type 0} → (S → E → S) → S → List E → S
+behindTrace step s [] = s
+behindTrace step s (e ∷ t) = behindTrace step (step s e) t
+
 -- states, calls, and results: what a call hands back in a state, and the state that is in it, "returned or left"
 pub record Machine (S C R : Type 0) : Type 0 where
   pub gives : S → C → R
@@ -20,8 +25,7 @@ module _ {S C R : Type 0} (machine : Machine S C R) where
 
   -- the state behind the calls
   abbrev pub stateFrom : S → List C → S
-  stateFrom s [] = s
-  stateFrom s (c ∷ cs) = stateFrom (machine .leaves (machine .gives s c)) cs
+  stateFrom s cs = behindTrace (λ t c. machine .leaves (machine .gives t c)) s cs
 
   -- of each call, in the state that it gets, P is true
   pub data Along (P : S → C → Type 0) : S → List C → Type 0 where
@@ -36,11 +40,6 @@ pub data Chain {S R : Type 0} (P : S → R → Type 0) (leaves : R → S) : S �
 -- "the accepted ones in order are the run's trace": the events of what is accepted, be it calls or results
 abbrev pub traceBy : {R E : Type 0} → (accepts : R → Bool) (event : R → E) → List R → List E
 traceBy accepts event rs = map event (keep accepts rs)
-
--- the state behind the events of a trace
-abbrev pub behindTrace : {S E : Type 0} → (S → E → S) → S → List E → S
-behindTrace step s [] = s
-behindTrace step s (e ∷ t) = behindTrace step (step s e) t
 
 -- x is element number i of the list, from 0; d is a default that is never used
 pub record Within {A : Type 0} (l : List A) (i : ℕ) (x : A) : Type 0 where
