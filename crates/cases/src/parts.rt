@@ -143,8 +143,8 @@ fn written(s: Score) -> Score {
     let shared = RowFields {
         number: 5,
         variables: 2,
-        fifth: 4,
-        sixth: 1,
+        byte5: 4,
+        byte6: 1,
         values: [0; 4],
     };
     writer::write_rows(&mut buffer, 3, &words, 1, shared);

@@ -16,7 +16,7 @@ use Rattle.row.specs.declared.RowFields.{RowFields}
 use Rattle.row.proofs.RowBytes.{gather-length, word-length, bytes-length}
 
 -- variable count, bytes 5 and 6, a zero, four values
-unfoldable pub tail : (variables fifth sixth : ℕ) → Valuation → Bytes
+unfoldable pub tail : (variables byte5 byte6 : ℕ) → Valuation → Bytes
 tail v x y σ = (v ∷ x ∷ y ∷ 0 ∷ []) ++ gather wordBytes (pad 4 0 σ)
 
 tail-length : (v x y : ℕ) (σ : Valuation) → length σ ≤ 4 → length (tail v x y σ) ≡ 20
@@ -24,18 +24,18 @@ unfolding tail
 tail-length v x y σ h = omega (arith, gather-length wordBytes 4 (pad 4 0 σ) (λ w m. word-length w), pad-length 4 0 σ h)
 
 module _ (r : RowFields) where
-  row-split : (σ : Valuation) → bytesOf (withValues r σ) ≡ wordBytes (r .number) ++ tail (r .variables) (r .fifth) (r .sixth) σ
+  row-split : (σ : Valuation) → bytesOf (withValues r σ) ≡ wordBytes (r .number) ++ tail (r .variables) (r .byte5) (r .byte6) σ
   unfolding bytesOf tail wordBytes
   row-split σ = refl
 
   -- in the bytes of rows
   rows-tail : (l : List Valuation) → ((σ : Valuation) → List·Memᴰ σ l → length σ ≤ 4) → (rest : Bytes) (i : ℕ) → i < length l
       → take (rowSize - numberSize) (drop (rowSize * i + numberSize) (gather (λ σ. bytesOf (withValues r σ)) l ++ rest))
-      ≡ tail (r .variables) (r .fifth) (r .sixth) (getD l i [])
+      ≡ tail (r .variables) (r .byte5) (r .byte6) (getD l i [])
   rows-tail [] few rest i h = absurd (omega arith)
   rows-tail (σ ∷ l) few rest zero h =
       let number = wordBytes (r .number) in
-      let others = tail (r .variables) (r .fifth) (r .sixth) σ in
+      let others = tail (r .variables) (r .byte5) (r .byte6) σ in
       rw (row-split σ, append-assoc (number ++ others), append-assoc number, drop-at number _ 4 (word-length (r .number)))
       (take-at others _ 20 (tail-length _ _ _ σ (few σ (List·Memᴰ·head refl))))
   rows-tail (σ ∷ l) few rest (suc i) h =
@@ -48,7 +48,7 @@ module _ (r : RowFields) where
   pub buffer-tail : (l : List Valuation) → ((σ : Valuation) → List·Memᴰ σ l → length σ ≤ 4) → (place : ℕ) (buffer : Bytes)
       → place ≤ length buffer → (i : ℕ) → i < length l
       → take (rowSize - numberSize) (drop (place + rowSize * i + numberSize) (splice place (gather (λ σ. bytesOf (withValues r σ)) l) buffer))
-      ≡ tail (r .variables) (r .fifth) (r .sixth) (getD l i [])
+      ≡ tail (r .variables) (r .byte5) (r .byte6) (getD l i [])
   unfolding splice front
   buffer-tail l few place buffer h i k =
       let start : length (take place buffer) + (rowSize * i + 4) ≡ place + rowSize * i + 4 = omega (arith, length-take-le place buffer h) in

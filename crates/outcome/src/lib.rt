@@ -96,8 +96,8 @@ pub fn settled(
         let shared = RowFields {
             number: number,
             variables: book.variables,
-            fifth: 0,
-            sixth: 0,
+            byte5: 0,
+            byte6: 0,
             values: [0; 4],
         };
         writer::write_rows(rows, place, words, n, shared);

@@ -22,7 +22,7 @@ row-words n v a b c d = (refl, refl, refl, refl, refl)
 pub fields-words : (n v x y a b c d : ℕ)
     → let word : ℕ → List ℕ = λ z. z % 256 ∷ z / 256 % 256 ∷ z / 65536 % 256 ∷ z / 16777216 % 256 ∷ [] in
     let head = word n ++ (v ∷ x ∷ y ∷ 0 ∷ []) in
-    let row : List ℕ → List ℕ = λ l. bytesOf (record { number = n; variables = v; fifth = x; sixth = y; values = l }) in
+    let row : List ℕ → List ℕ = λ l. bytesOf (record { number = n; variables = v; byte5 = x; byte6 = y; values = l }) in
     (row [] ≡ head ++ replicate 16 0)
     × (row (a ∷ []) ≡ head ++ (word a ++ replicate 12 0))
     × (row (a ∷ b ∷ []) ≡ head ++ (word a ++ (word b ++ replicate 8 0)))

@@ -23,15 +23,15 @@ wordBytes x = x % 256 ∷ x / 256 % 256 ∷ x / 65536 % 256 ∷ x / 16777216 % 2
 
 -- the bytes of one row
 unfoldable pub bytesOf : RowFields → List ℕ
-bytesOf r = wordBytes (r .number) ++ (r .variables ∷ r .fifth ∷ r .sixth ∷ 0 ∷ []) ++ gather wordBytes (pad variableLimit 0 (r .values))
+bytesOf r = wordBytes (r .number) ++ (r .variables ∷ r .byte5 ∷ r .byte6 ∷ 0 ∷ []) ++ gather wordBytes (pad variableLimit 0 (r .values))
 
 -- the same fields with other values: rows of one event share all but these
 abbrev pub withValues : RowFields → Valuation → RowFields
-withValues r σ = record { number = r .number; variables = r .variables; fifth = r .fifth; sixth = r .sixth; values = σ }
+withValues r σ = record { number = r .number; variables = r .variables; byte5 = r .byte5; byte6 = r .byte6; values = σ }
 
--- a row of one book alone: bytes 5 and 6 are zero
+-- a row as it is written: bytes 5 and 6 are zero
 abbrev pub plainRow : (number variables : ℕ) → Valuation → RowFields
-plainRow number variables σ = record { number = number; variables = variables; fifth = 0; sixth = 0; values = σ }
+plainRow number variables σ = record { number = number; variables = variables; byte5 = 0; byte6 = 0; values = σ }
 
 -- its bytes
 unfoldable pub rowBytes : (number variables : ℕ) → Valuation → List ℕ

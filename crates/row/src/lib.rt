@@ -8,12 +8,12 @@ ghost use Rattle.row.specs.RowBytes.{bytesOf};
 // "Row, 24 bytes, no header"
 pub const ROW: usize = 24;
 
-// What a row says: the event number, the variable count, bytes 5 and 6, which are zero today, and a value for each variable.
+// What a row says: the event number, the variable count, bytes 5 and 6, which are zero in every row that is written, and a value for each variable.
 pub struct RowFields {
     pub number: u32,
     pub variables: usize,
-    pub fifth: u8,
-    pub sixth: u8,
+    pub byte5: u8,
+    pub byte6: u8,
     pub values: Valuation,
 }
 
@@ -34,8 +34,8 @@ pub fn row_bytes(r: RowFields) -> [u8; ROW]
         (number / 65536 % 256) as u8,
         (number / 16777216 % 256) as u8,
         (r.variables % 256) as u8,
-        r.fifth,
-        r.sixth,
+        r.byte5,
+        r.byte6,
         0,
         (a % 256) as u8,
         (a / 256 % 256) as u8,
