@@ -2,7 +2,7 @@
 -- the first that fails. For every list of checks that a call goes through.
 use mathlib.Core.Path.{_≡_, refl, sym, subst, _∙_}
 use mathlib.Core.Bool.{Bool, true, false, cond, _||_, false≢true}
-use mathlib.Core.List.{List, [], _∷_, map, List·Memᴰ, List·Memᴰ·not-nil, List·Memᴰ·cases-cons}
+use mathlib.Core.List.{List, [], _∷_, _++_, map, List·Memᴰ, List·Memᴰ·not-nil, List·Memᴰ·cases-cons}
 use mathlib.Core.Logic.{_↔_, ⊎-elim}
 use Prim.Native.Nat.{ℕ}
 use borrow.Author.Tests.{eqb-false}
@@ -62,6 +62,33 @@ first-more {A} {Fails} {Passes} {otherwise} c cs f p r = go (c .fails) f p
         → FirstToFail Fails Passes (λ a. a) otherwise (c .answer ∷ map (λ d. d .answer) cs) (cond z (c .answer) (firstFailing otherwise cs))
     go true f p = failsHere (f refl)
     go false f p = failsLater (p refl) r
+
+-- Checks behind others: where one of the first fails the others are not looked at; where none does they decide. `own` tells an answer that no check
+-- has from those that they have.
+module _ {A : Type 0} (otherwise : A) (own : A → Bool) where
+  pub first-refused : own otherwise ≡ true → (cs ds : List (Check A)) → own (firstFailing otherwise cs) ≡ false
+      → firstFailing otherwise (cs ++ ds) ≡ firstFailing otherwise cs
+  first-refused o [] ds h = absurd (false≢true (sym h ∙ o))
+  first-refused o (c ∷ cs) ds h = go (c .fails) h (first-refused o cs ds)
+    where
+      go : (z : Bool) → own (cond z (c .answer) (firstFailing otherwise cs)) ≡ false
+          → (own (firstFailing otherwise cs) ≡ false → firstFailing otherwise (cs ++ ds) ≡ firstFailing otherwise cs)
+          → cond z (c .answer) (firstFailing otherwise (cs ++ ds)) ≡ cond z (c .answer) (firstFailing otherwise cs)
+      go true h ih = refl
+      go false h ih = ih h
+
+  pub first-behind : (cs ds : List (Check A)) → any (λ c. own (c .answer)) cs ≡ false → own (firstFailing otherwise cs) ≡ true
+      → firstFailing otherwise (cs ++ ds) ≡ firstFailing otherwise ds
+  first-behind [] ds a h = refl
+  first-behind (c ∷ cs) ds a h =
+      let (this, rest) = or-false-split (own (c .answer)) (any (λ d. own (d .answer)) cs) a in
+      go (c .fails) this h (first-behind cs ds rest)
+    where
+      go : (z : Bool) → own (c .answer) ≡ false → own (cond z (c .answer) (firstFailing otherwise cs)) ≡ true
+          → (own (firstFailing otherwise cs) ≡ true → firstFailing otherwise (cs ++ ds) ≡ firstFailing otherwise ds)
+          → cond z (c .answer) (firstFailing otherwise (cs ++ ds)) ≡ firstFailing otherwise ds
+      go true this h ih = absurd (false≢true (sym this ∙ h))
+      go false this h ih = ih h
 
 -- Each number is given just where its check is the first that fails, if no other check has it.
 module _ {A : Type 0} (otherwise : A) (number : A → ℕ) where

@@ -2,15 +2,16 @@
 -- refused for want of space, accepted. For `event`.
 use mathlib.Core.Path.{_≡_, refl, sym, ap, ap₂, _∙_}
 use mathlib.Core.Bool.{Bool, true, false, cond, false≢true}
-use mathlib.Core.List.{List, List·Memᴰ}
+use mathlib.Core.List.{List, [], _∷_, List·Memᴰ}
 use Prim.Native.Nat.{ℕ, suc, _+_, _*_, _≤_}
 use native.Mathlib.Numerals.{add-one}
 use borrow.Author.Tests.{leb-true, leb-false, lt-ltb, le-ltb}
 use lib.Dec.{leb}
 use lib.ListN.{length, take}
-use Rattle.laws.specs.Checks.{firstFailing}
+use Rattle.laws.specs.Checks.{Check, firstFailing}
 use Rattle.laws.specs.Lists.{gather}
 use Rattle.laws.specs.Parts.{splice}
+use Rattle.laws.proofs.Checks.{first-refused, first-behind}
 use Rattle.laws.proofs.Lists.{mem-map, mem-take}
 use Rattle.laws.proofs.Maps.{gather-agree, gather-map}
 use Rattle.laws.proofs.Parts.{pad-few}
@@ -30,33 +31,13 @@ use Rattle.row.specs.RowBytes.{rowSize, rowBytes}
 use Rattle.row.proofs.RowBytes.{row-wide}
 use Rattle.tally.specs.declared.Tally.{Tally}
 use Rattle.tally.specs.Tallies.{tallied}
-use Rattle.calls.specs.Calls.{isAccepted, rowsBy, unsound, outOfForm, tooMany, noRoom, noSpace, decisions, answerTo, taken, bufferAfter}
+use Rattle.calls.specs.Calls.{isAccepted, rowsBy, noSpace, decisions, answerTo, taken, bufferAfter}
 use Rattle.transition.specs.declared.Stepped.{Stepped}
 use Rattle.transition.specs.Moves.{Moved, Decided}
 use Rattle.calls.specs.declared.EventAnswer.{EventAnswer}
-use Rattle.calls.specs.declared.EventAnswer.the-variants.{Accepted, Unsound, OutOfForm, TooMany, NoRoom, NoSpace}
+use Rattle.calls.specs.declared.EventAnswer.the-variants.{Accepted, NoSpace}
 use Rattle.calls.specs.declared.Taken.{Taken}
 use Rattle.transition.proofs.Checks.{first-book}
-
--- the answer of the checks 9 to 12, and a where none of them fails
-abbrev four : (p q m n : Bool) → EventAnswer → EventAnswer
-four p q m n a = cond p Unsound (cond q OutOfForm (cond m TooMany (cond n NoRoom a)))
-
--- one of the first four fails: the fifth is not looked at
-four-refused : (p q m n : Bool) (a : EventAnswer) → isAccepted (four p q m n Accepted) ≡ false → four p q m n a ≡ four p q m n Accepted
-four-refused true q m n a h = refl
-four-refused false true m n a h = refl
-four-refused false false true n a h = refl
-four-refused false false false true a h = refl
-four-refused false false false false a h = absurd (false≢true (sym h))
-
--- none of them fails
-four-passed : (p q m n : Bool) (a : EventAnswer) → isAccepted (four p q m n Accepted) ≡ true → four p q m n a ≡ a
-four-passed true q m n a h = absurd (false≢true h)
-four-passed false true m n a h = absurd (false≢true h)
-four-passed false false true n a h = absurd (false≢true h)
-four-passed false false false true a h = absurd (false≢true h)
-four-passed false false false false a h = refl
 
 -- what the pure step answers
 abbrev stepAnswer : Book → State → Bytes → EventAnswer
@@ -84,13 +65,17 @@ module _ (b : Book) (s : State) (r buffer : Bytes) (place : ℕ) where
   abbrev its-rows : List Valuation
   its-rows = rowsBy b s (eventIn r)
 
+  abbrev space : List (Check EventAnswer)
+  space = record { fails = noSpace b s r buffer place; answer = NoSpace } ∷ []
+
+  -- the buffer's check is not looked at, or decides
   answer-refused : isAccepted (stepAnswer b s r) ≡ false → answerTo b s r buffer place ≡ stepAnswer b s r
   unfolding answerTo
-  answer-refused h = four-refused (unsound b s r) (outOfForm b s r) (tooMany b s r) (noRoom b s r) last h
+  answer-refused h = first-refused Accepted isAccepted refl (decisions b s r) space h
 
   answer-passed : isAccepted (stepAnswer b s r) ≡ true → answerTo b s r buffer place ≡ last
   unfolding answerTo
-  answer-passed h = four-passed (unsound b s r) (outOfForm b s r) (tooMany b s r) (noRoom b s r) last h
+  answer-passed h = first-behind Accepted isAccepted (decisions b s r) space refl h
 
   -- what `outcome::refused` hands back
   abbrev refusal : Tally → EventAnswer → Taken
