@@ -65,17 +65,17 @@ module _ (b : Book) (s : State) (r buffer : Bytes) (place : ℕ) where
   abbrev its-rows : List Valuation
   its-rows = rowsBy b s (eventIn r)
 
-  abbrev space : List (Check EventAnswer)
-  space = record { fails = noSpace b s r buffer place; answer = NoSpace } ∷ []
+  abbrev bufferCheck : List (Check EventAnswer)
+  bufferCheck = record { fails = noSpace b s r buffer place; answer = NoSpace } ∷ []
 
   -- the buffer's check is not looked at, or decides
   answer-refused : isAccepted (stepAnswer b s r) ≡ false → answerTo b s r buffer place ≡ stepAnswer b s r
   unfolding answerTo
-  answer-refused h = first-refused Accepted isAccepted refl (decisions b s r) space h
+  answer-refused h = first-refused Accepted isAccepted refl (decisions b s r) bufferCheck h
 
   answer-passed : isAccepted (stepAnswer b s r) ≡ true → answerTo b s r buffer place ≡ last
   unfolding answerTo
-  answer-passed h = first-behind Accepted isAccepted (decisions b s r) space refl h
+  answer-passed h = first-behind Accepted isAccepted (decisions b s r) bufferCheck refl h
 
   -- what `outcome::refused` hands back
   abbrev refusal : Tally → EventAnswer → Taken
