@@ -44,6 +44,24 @@ pub fn never() -> Constraint
     }
 }
 
+// "The symbol's constraint is false where that argument differs.": whether it differs at no fixed place among the first ones of both.
+fn fixed_agree(y: Symbol, e: Event) -> bool
+    requires { ⌜ (y .count ≤ parameterLimit) × (e .count ≡ y .count) ⌝ }
+    ensures { λ r. ⌜ r ≡ Events.fixedAll (viewSymbol y .parameters) (viewEvent e .args) ⌝ }
+{
+    let n = y.count;
+    let mut i: usize = 0;
+    while i < n {
+        let p = y.parameters[i];
+        let given = e.args[i];
+        if p.tag == 2 && p.number != given {
+            return false;
+        }
+        i += 1;
+    }
+    true
+}
+
 // "variable equals argument" for each bound place among the first ones of both.
 fn demands(y: Symbol, e: Event) -> Constraint
     requires { ⌜ (y .count ≤ parameterLimit) × (e .count ≡ y .count) × (all (soundParameter variableLimit) (viewSymbol y .parameters) ≡ true) ⌝ }
@@ -111,9 +129,11 @@ pub fn constraint_of(y: Symbol, e: Event) -> Constraint
     ensures { λ r. ⌜ (viewConstraint r ≡ Events.constraintOf (viewSymbol y) (viewEvent e)) × Ready r ⌝ }
 {
     if matches(y, e) {
-        let c = demands(y, e);
-        if consistent(c) {
-            return c;
+        if fixed_agree(y, e) {
+            let c = demands(y, e);
+            if consistent(c) {
+                return c;
+            }
         }
     }
     never()

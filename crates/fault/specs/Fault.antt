@@ -1,6 +1,6 @@
 -- `Fault s q n`: the text s has the fault n (one of `faultNumbers`) at place q, by one sentence of document 01 ("The book"; "What a call
--- hands back", Reading) for each constructor. `Least`: "the earliest place; at one place the smaller number". "A book is ASCII text" has none
--- of its own: a word or token with a byte from 128 on is one of notVars, notSym, noName, noKind, noArgument, misplaced, or stands in excess.
+-- hands back", Reading; document 02, change 1) for each constructor. `Least`: "the earliest place; at one place the smaller number". "A book is ASCII text" has none
+-- of its own: a word or token with a byte from 128 on is one of notVars, notSym, noName, noKind, noArgument, noNumber, misplaced, or stands in excess.
 use mathlib.Core.Path.{_≡_}
 use mathlib.Core.Bool.{Bool, true, false, cond, _&&_}
 use mathlib.Core.List.{List, [], _∷_, _++_}
@@ -10,8 +10,8 @@ use lib.Dec.{eqb}
 use lib.ListN.{length}
 use Rattle.laws.specs.Lists.{all}
 use Rattle.pattern.specs.Positions.{occurrenceLimit}
-use Rattle.form.specs.Limits.{variableLimit, symbolLimit, kindLimit, parameterLimit, nameLimit, openLimit}
-use Rattle.form.specs.Text.{Bytes, space, lf, isLower, isNameByte, varsWord, symWord, matchWord, ignoredWord, decimal}
+use Rattle.form.specs.Limits.{variableLimit, symbolLimit, kindLimit, parameterLimit, numberLimit, nameLimit, openLimit}
+use Rattle.form.specs.Text.{Bytes, space, lf, isLower, isNameByte, varsWord, symWord, matchWord, ignoredWord, fixedSign, decimal}
 use Rattle.form.specs.Phrase.{opening, closing}
 use Rattle.form.specs.Scan.{at, spacesEnd}
 use Rattle.fault.specs.Places.{On, Ends, spotAt, Word, wordAt, NoMatch, Header, PatternLine, TokenAt, before, nameAt, tokenAt}
@@ -53,9 +53,11 @@ pub data WordFault (s : Bytes) (k i p : ℕ) : ℕ → Type 0 where
   already : {j h q : ℕ} → Declares k i → Word s j h q → Declares j h → q < p → wordAt s q ≡ wordAt s p → WordFault s k i p 4
   -- "KIND is 1 to 255 without leading zeros"; "A KIND out of range is 2"
   noKind : 1 ≤ k → i ≡ 2 → ((n : ℕ) → 1 ≤ n → n ≤ kindLimit → wordAt s p ≡ decimal n → ⊥) → WordFault s k i p 2
-  -- "ARGS are 0 to 4 words, each a declared variable or `_`": no name and not `_`; a name over 12 bytes
-  noArgument : IsArgument k i → (wordAt s p ≡ ignoredWord → ⊥) → isNameForm (wordAt s p) ≡ false → WordFault s k i p 2
+  -- "ARGS are 0 to 4 words, each a declared variable or `_`", or such as begin with `=` (next): no name and none of these; a name over 12 bytes
+  noArgument : IsArgument k i → (wordAt s p ≡ ignoredWord → ⊥) → (at s p ≡ fixedSign → ⊥) → isNameForm (wordAt s p) ≡ false → WordFault s k i p 2
   longArgument : IsArgument k i → isNameForm (wordAt s p) ≡ true → nameLimit < length (wordAt s p) → WordFault s k i p 3
+  -- "An argument word may be `=` and a number 0 to 4294967295 without extra leading zeros; anything else after `=` is answer 2."
+  noNumber : IsArgument k i → at s p ≡ fixedSign → ((n : ℕ) → n ≤ numberLimit → wordAt s p ≡ fixedSign ∷ decimal n → ⊥) → WordFault s k i p 2
   -- "name not declared": neither a variable nor, up to this line, a symbol has this name
   undeclaredArgument : IsArgument k i → isNameForm (wordAt s p) ≡ true → (VariableNamed s (wordAt s p) → ⊥) → (SymbolNamed s (suc k) (wordAt s p) → ⊥)
       → WordFault s k i p 5

@@ -1,7 +1,7 @@
 -- The limits of document 01, "The book", on texts, each by its sentence; those on what a text declares are the crate meaning's. The limit
 -- of a pattern's occurrences is `occurrenceLimit` of the crate pattern.
 use Prim.Native.Nat.{ℕ}
-pub use Rattle.meaning.specs.Limits.{variableLimit, symbolLimit, kindLimit, parameterLimit}
+pub use Rattle.meaning.specs.Limits.{variableLimit, symbolLimit, kindLimit, parameterLimit, numberLimit}
 
 -- "A book is ASCII text, at most 4,096 bytes."
 abbrev pub textLimit : ℕ

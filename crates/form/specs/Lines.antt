@@ -5,11 +5,12 @@ use mathlib.Core.List.{List, [], _∷_, _++_, map}
 use Prim.Native.Nat.{ℕ, zero, suc, _+_, _-_}
 use lib.Dec.{eqb, ltb}
 use lib.ListN.{length}
-use Rattle.meaning.specs.Events.{Parameter, ignored, names, Symbol}
+use Rattle.meaning.specs.Events.{Parameter, ignored, names, fixed, Symbol}
 use Rattle.form.specs.Limits.{variableLimit, symbolLimit, parameterLimit}
-use Rattle.form.specs.Text.{Bytes, symWord, matchWord, varsWord, ignoredWord, Declarations, symbolOf, varsLine, Span, variableSpans, symbolSpans}
+use Rattle.form.specs.Text.{Bytes, symWord, matchWord, varsWord, ignoredWord, fixedSign}
+use Rattle.form.specs.Text.{Declarations, symbolOf, varsLine, Span, variableSpans, symbolSpans}
 use Rattle.form.specs.Form.{sameWord}
-use Rattle.form.specs.Scan.{Step, go, fail, part, wordEnd, nextWord, nameFault, kindOf}
+use Rattle.form.specs.Scan.{Step, go, fail, at, part, wordEnd, nextWord, nameFault, kindOf, isNumber, numberOf}
 
 -- the bytes of a span
 abbrev pub bytesAt : Bytes → Span → Bytes
@@ -60,19 +61,23 @@ pub record Arguments : Type 0 where
   pub step : Step
   pub parameters : List Parameter
 
--- the fault of the word from p to e as an argument, 0 where it is `_` or a declared variable ("a symbol's name among ARGS …
--- is 5"), and the parameter it stands for
+-- the fault of the word from p to e as an argument, 0 where it is `_`, `=` and a number ("anything else after `=` is answer 2", document
+-- 02, change 1) or a declared variable ("a symbol's name among ARGS … is 5"), and the parameter it stands for
 abbrev pub argumentFault : Bytes → List Span → (p e : ℕ) → ℕ
 argumentFault s xs p e =
     let n = nameFault s p e in
     let d : ℕ = cond (ltb (indexOf s xs (part s p e)) (length xs)) 0 5 in
     let f : ℕ = cond (eqb n 0) d n in
-    cond (sameWord (part s p e) ignoredWord) 0 f
+    let g : ℕ = cond (isNumber (part s (p + 1) e)) 0 2 in
+    let h : ℕ = cond (eqb (at s p) fixedSign) g f in
+    cond (sameWord (part s p e) ignoredWord) 0 h
 
 abbrev pub argumentOf : Bytes → List Span → (p e : ℕ) → Parameter
 argumentOf s xs p e =
     let v = names (indexOf s xs (part s p e)) in
-    cond (sameWord (part s p e) ignoredWord) ignored v
+    let n = fixed (numberOf s (p + 1) e) in
+    let h = cond (eqb (at s p) fixedSign) n v in
+    cond (sameWord (part s p e) ignoredWord) ignored h
 
 -- argument words from p on, with room for so many more
 abbrev pub argumentsFrom : Bytes → List Span → ℕ → List Parameter → ℕ → Arguments

@@ -1,14 +1,14 @@
 -- Scanning: what stands at a place of a text, how far runs of spaces, words and names go, and the gap after a word.
 -- Places count from 0.
-use mathlib.Core.Bool.{Bool, cond, not, _&&_, _||_}
+use mathlib.Core.Bool.{Bool, false, cond, not, _&&_, _||_}
 use mathlib.Core.List.{[], _∷_}
 use Prim.Native.Nat.{ℕ, suc, _+_, _-_, _*_}
 use Prim.Native.Char.{code}
 use lib.Dec.{eqb, leb}
-use lib.ListN.{getD, take, drop}
+use lib.ListN.{length, getD, take, drop}
 use Rattle.laws.specs.Lists.{all}
-use Rattle.form.specs.Limits.{kindLimit, nameLimit}
-use Rattle.form.specs.Text.{Bytes, byteCount, space, lf, isLower, isDigit, isNameByte}
+use Rattle.form.specs.Limits.{kindLimit, numberLimit, nameLimit}
+use Rattle.form.specs.Text.{Bytes, byteCount, space, lf, isLower, isDigit, isNameByte, numberDigits}
 
 -- what stands past the end: no byte
 abbrev pub pastEnd : ℕ
@@ -83,3 +83,14 @@ kindOf s p e =
     let w = part s p e in
     let n = value 0 w in
     cond (leb (e - p) kindDigits && all isDigit w && not (eqb (at s p) (code "0"))) (cond (leb n kindLimit) n 0) 0
+
+-- "a number 0 to 4294967295 without extra leading zeros" (document 02, change 1): whether a word is one; the count of its digits is judged
+-- before its value
+abbrev pub isNumber : Bytes → Bool
+isNumber [] = false
+isNumber (b ∷ w) =
+    leb (length (b ∷ w)) numberDigits && all isDigit (b ∷ w) && (eqb (length w) 0 || not (eqb b (code "0"))) && leb (value 0 (b ∷ w)) numberLimit
+
+-- its value, or 0 where the word from p to e is no such number
+unfoldable pub numberOf : Bytes → (p e : ℕ) → ℕ
+numberOf s p e = let w = part s p e in cond (isNumber w) (value 0 w) 0

@@ -1,14 +1,14 @@
--- Declarations and the text that writes them: document 01, "The book". The pattern is written apart (Tokens, Phrase).
+-- Declarations and the text that writes them: document 01, "The book"; document 02, change 1. The pattern is written apart (Tokens, Phrase).
 use mathlib.Core.Bool.{Bool, false, cond, _&&_, _||_}
 use mathlib.Core.List.{List, [], _∷_, _++_, map}
-use Prim.Native.Nat.{ℕ, _+_, _-_, _/_, _%_}
+use Prim.Native.Nat.{ℕ, zero, suc, _+_, _-_, _/_, _%_}
 use Prim.Native.Char.{code}
 use Prim.Native.String.{String}
 use lib.Dec.{leb, ltb}
 use lib.ListN.{length, getD}
 use Rattle.laws.specs.Lists.{all, gather}
 use Rattle.pattern.specs.Regex.{Regex}
-use Rattle.meaning.specs.Events.{Parameter, ignored, names, Symbol}
+use Rattle.meaning.specs.Events.{Parameter, ignored, names, fixed, Symbol}
 use Rattle.meaning.specs.Meaning.{Tracematch}
 use Rattle.form.specs.Limits.{nameLimit}
 
@@ -69,15 +69,26 @@ matchWord = ascii "match"
 abbrev pub ignoredWord : Bytes
 ignoredWord = ascii "_"
 
+-- "An argument word may be `=` and a number" (document 02, change 1): the sign
+abbrev pub fixedSign : ℕ
+fixedSign = code "="
+
 -- the digit of a number below 10
 abbrev pub digit : ℕ → ℕ
 digit n = code "0" + n
 
--- a number below 1000 in decimal, without leading zeros
+-- a number of at most so many digits in decimal, without extra leading zeros: those of its tenth, then its last
+abbrev pub decimalIn : (digits n : ℕ) → Bytes
+decimalIn zero n = []
+decimalIn (suc k) n = let more = decimalIn k (n / 10) ++ (digit (n % 10) ∷ []) in cond (ltb n 10) (digit n ∷ []) more
+
+-- as many digits as `numberLimit` has
+abbrev pub numberDigits : ℕ
+numberDigits = 10
+
+-- a number up to `numberLimit` in decimal
 unfoldable pub decimal : ℕ → Bytes
-decimal n =
-    cond (ltb n 10) (digit n ∷ [])
-    (cond (ltb n 100) (digit (n / 10) ∷ digit (n % 10) ∷ []) (digit (n / 100) ∷ digit (n / 10 % 10) ∷ digit (n % 10) ∷ []))
+decimal n = decimalIn numberDigits n
 
 -- one line `sym NAME KIND ARGS`
 pub record SymbolLine : Type 0 where
@@ -95,10 +106,11 @@ abbrev pub spaced : List Bytes → Bytes
 spaced [] = []
 spaced (w ∷ ws) = space ∷ w ++ spaced ws
 
--- an argument word: "each a declared variable or `_`"
+-- an argument word: "each a declared variable or `_`"; "`=` and a number" (document 02, change 1)
 abbrev pub parameterWord : List Bytes → Parameter → Bytes
 parameterWord variables ignored = ignoredWord
 parameterWord variables (names v) = getD variables v []
+parameterWord variables (fixed n) = fixedSign ∷ decimal n
 
 -- "First line: `vars`, then 0 to 4 variable names."
 abbrev pub varsLine : List Bytes → Bytes

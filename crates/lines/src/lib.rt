@@ -6,14 +6,18 @@ use table::Table;
 ghost use mathlib.Core.Path.{_≡_};
 ghost use mathlib.Core.List.{map};
 ghost use Prim.Native.Nat.{_-_, _+_, _≤_};
+ghost use lib.Dec.{eqb};
 ghost use lib.ListN.{length, take};
 ghost use Rattle.form.specs.Limits.{variableLimit, symbolLimit, parameterLimit};
-ghost use Rattle.form.specs.Text.{ignoredWord, varsWord, symWord, matchWord};
+ghost use Rattle.form.specs.Text.{ignoredWord, fixedSign, varsWord, symWord, matchWord};
 ghost use Rattle.form.specs.Form.{sameWord};
-ghost use Rattle.form.specs.Scan.{part, fail};
+ghost use Rattle.form.specs.Scan.{at, part, fail};
 ghost use Rattle.form.specs.Lines as Lines;
 ghost use Rattle.table.specs.Tables.{symbolOf, parameterOf, spanOf, viewSymbol, viewTable, Ready};
 ghost use Rattle.lines.specs.Results.{linesRead, variablesRead, argumentsRead, symbolRead};
+
+// The sign of a fixed argument.
+const EQUALS: usize = b'=' as usize;
 
 // What was read of the lines: no fault and the place to go on from, or a fault's number and its place; and the table so far.
 pub struct LinesRead {
@@ -107,6 +111,13 @@ fn is_ignored(s: &[u8], p: usize, e: usize) -> bool
     text::same(s, p, e, word, 0, word.len())
 }
 
+// "An argument word may be `=` and a number": the sign stands at p.
+fn is_fixed(s: &[u8], p: usize) -> bool
+    ensures { λ r. ⌜ r ≡ eqb (at (now (s .entry)) p) fixedSign ⌝ }
+{
+    text::peek(s, p) == EQUALS
+}
+
 // The fault of the word from p to e as an argument, 0 where it has none.
 fn argument_fault(s: &[u8], t: Table, p: usize, e: usize) -> usize
     requires { ⌜ Ready (now s) t × (p ≤ e) × (e ≤ length (now s)) ⌝ }
@@ -114,6 +125,12 @@ fn argument_fault(s: &[u8], t: Table, p: usize, e: usize) -> usize
 {
     if is_ignored(s, p, e) {
         return 0;
+    }
+    if is_fixed(s, p) {
+        if words::is_number(s, p + 1, e) {
+            return 0;
+        }
+        return 2;
     }
     let f = words::name_fault(s, p, e);
     if f != 0 {
@@ -134,6 +151,13 @@ fn argument_of(s: &[u8], t: Table, p: usize, e: usize) -> Parameter
 {
     if is_ignored(s, p, e) {
         return Parameter { tag: 0, number: 0 };
+    }
+    if is_fixed(s, p) {
+        let n = words::number_of(s, p + 1, e);
+        return Parameter {
+            tag: 2,
+            number: n as u32,
+        };
     }
     let names = t.names;
     let to = t.variables;

@@ -1,5 +1,5 @@
--- The matcher's constraint of a symbol on an event (demands, two unequal ones on a variable make it false) says of a valuation what the
--- declarative `holds` says of it. A wrong `compatible`, `demandsOf` or `constraintOf` is refused here.
+-- The matcher's constraint of a symbol on an event (demands; two unequal ones on a variable, or another argument at a fixed place, make it
+-- false) says of a valuation what the declarative `holds` says of it. A wrong `compatible`, `demandsOf` or `constraintOf` is refused here.
 use mathlib.Core.Path.{_≡_, refl, sym, ap, ap₂, subst, _∙_}
 use mathlib.Core.Bool.{Bool, true, false, cond, not, _&&_, _||_, false≢true}
 use mathlib.Core.List.{List, [], _∷_, List·Memᴰ, List·Memᴰ·head, List·Memᴰ·tail, List·Memᴰ·not-nil}
@@ -11,8 +11,9 @@ use lib.ListN.{length, getD}
 use borrow.Author.Tests.{eqb-true, eq-eqb, ne-eqb, ltb-true, lt-ltb}
 use Rattle.laws.specs.Lists.{all}
 use Rattle.laws.proofs.Lists.{same-test, all-of, all-at, any-found, any-of, and-true-split}
-use Rattle.meaning.specs.Events.{Parameter, ignored, names, Symbol, Event, Demand, never, demands, matches, demandsOf, compatible, consistent}
-use Rattle.meaning.specs.Events.{constraintOf, Valuation, agrees, satisfies, equalAt, equalAll, holds, concerns, word32, isValuation}
+use Rattle.meaning.specs.Events.{Parameter, ignored, names, fixed, Symbol, Event, Demand, Constraint, never, demands, matches}
+use Rattle.meaning.specs.Events.{demandsOf, compatible, consistent, fixedAt, fixedAll, constraintOf}
+use Rattle.meaning.specs.Events.{Valuation, agrees, satisfies, equalAt, equalAll, holds, concerns, word32, isValuation}
 
 -- demands that one valuation meets are not unequal on a variable
 met-compatible : (σ : Valuation) (c d : Demand) → agrees σ c ≡ true → agrees σ d ≡ true → compatible c d ≡ true
@@ -42,77 +43,128 @@ swapped true b c = refl
 swapped false true c = refl
 swapped false false c = refl
 
-demands-equal : (σ : Valuation) (ps : List Parameter) (xs : List ℕ) → (eqb (length ps) (length xs) && all (agrees σ) (demandsOf ps xs)) ≡ equalAll σ ps xs
+moved : (a b c d : Bool) → (a && (b && c) && d) ≡ (b && (a && c && d))
+moved true true c d = refl
+moved true false c d = refl
+moved false true c d = refl
+moved false false c d = refl
+
+demands-equal : (σ : Valuation) (ps : List Parameter) (xs : List ℕ)
+    → (eqb (length ps) (length xs) && fixedAll ps xs && all (agrees σ) (demandsOf ps xs)) ≡ equalAll σ ps xs
 demands-equal σ [] [] = refl
 demands-equal σ [] (x ∷ xs) = rw (ne-eqb 0 (suc (length xs)) (λ e. omega arith))
 demands-equal σ (p ∷ ps) [] = rw (ne-eqb (suc (length ps)) 0 (λ e. omega arith))
-demands-equal σ (ignored ∷ ps) (x ∷ xs) = ap (λ b. b && all (agrees σ) (demandsOf ps xs)) (eqb-suc (length ps) (length xs)) ∙ demands-equal σ ps xs
+demands-equal σ (ignored ∷ ps) (x ∷ xs) =
+    ap (λ b. b && fixedAll ps xs && all (agrees σ) (demandsOf ps xs)) (eqb-suc (length ps) (length xs)) ∙ demands-equal σ ps xs
 demands-equal σ (names v ∷ ps) (x ∷ xs) =
-    ap (λ b. b && (eqb (getD σ v 0) x && all (agrees σ) (demandsOf ps xs))) (eqb-suc (length ps) (length xs))
-    ∙ swapped (eqb (length ps) (length xs)) (eqb (getD σ v 0) x) (all (agrees σ) (demandsOf ps xs))
+    ap (λ b. b && fixedAll ps xs && (eqb (getD σ v 0) x && all (agrees σ) (demandsOf ps xs))) (eqb-suc (length ps) (length xs))
+    ∙ swapped (eqb (length ps) (length xs) && fixedAll ps xs) (eqb (getD σ v 0) x) (all (agrees σ) (demandsOf ps xs))
     ∙ ap (λ b. eqb (getD σ v 0) x && b) (demands-equal σ ps xs)
+demands-equal σ (fixed n ∷ ps) (x ∷ xs) =
+    ap (λ b. b && (eqb n x && fixedAll ps xs) && all (agrees σ) (demandsOf ps xs)) (eqb-suc (length ps) (length xs))
+    ∙ moved (eqb (length ps) (length xs)) (eqb n x) (fixedAll ps xs) (all (agrees σ) (demandsOf ps xs))
+    ∙ ap (λ b. eqb n x && b) (demands-equal σ ps xs)
 
 pub holds-satisfies : (s : Symbol) (e : Event) (σ : Valuation) → holds s e σ ≡ satisfies (constraintOf s e) σ
 unfolding holds constraintOf matches
 holds-satisfies s e σ =
     ap (λ b. eqb (s .kind) (e .kind) && b) (sym (demands-equal σ (s .parameters) (e .args)))
-    ∙ grouped (eqb (s .kind) (e .kind)) (eqb (length (s .parameters)) (length (e .args))) (all (agrees σ) ds)
-    ∙ go (matches s e) (consistent ds) (met-consistent σ ds)
+    ∙ grouped (eqb (s .kind) (e .kind)) (eqb (length (s .parameters)) (length (e .args))) (fixedAll (s .parameters) (e .args)) (all (agrees σ) ds)
+    ∙ go (matches s e && fixedAll (s .parameters) (e .args)) (consistent ds) (met-consistent σ ds)
   where
     ds : List Demand
     ds = demandsOf (s .parameters) (e .args)
 
-    grouped : (a b c : Bool) → (a && (b && c)) ≡ ((a && b) && c)
-    grouped true b c = refl
-    grouped false b c = refl
+    grouped : (a b c d : Bool) → (a && (b && c && d)) ≡ (a && b && c && d)
+    grouped true b c d = refl
+    grouped false b c d = refl
 
     go : (a b : Bool) → (all (agrees σ) ds ≡ true → b ≡ true) → (a && all (agrees σ) ds) ≡ satisfies (cond (a && b) (demands ds) never) σ
     go true true h = refl
     go true false h = same-test (all (agrees σ) ds) false (λ g. absurd (false≢true (h g))) (λ g. absurd (false≢true g))
     go false b h = refl
 
--- what `equalAll` asks, in its own words: as many arguments as places, and the value of each bound place's variable is its argument
-equal-words : (σ : Valuation) (ps : List Parameter) (xs : List ℕ)
-    → (equalAll σ ps xs ≡ true)
-    ↔ ((length ps ≡ length xs) × ((i v : ℕ) → i < length ps → getD ps i ignored ≡ names v → getD σ v 0 ≡ getD xs i 0))
-equal-words σ [] [] = (λ _. (refl, λ i v h e. absurd (omega (arith, h))), λ _. refl)
-equal-words σ [] (x ∷ xs) = (λ h. absurd (false≢true h), λ r. absurd (omega (arith, r .0)))
-equal-words σ (p ∷ ps) [] = (λ h. absurd (false≢true h), λ r. absurd (omega (arith, r .0)))
-equal-words σ (p ∷ ps) (x ∷ xs) =
-    let ih = equal-words σ ps xs in (
-      λ h. let (a, b) = and-true-split (equalAt σ p x) (equalAll σ ps xs) h in
-          let r = ih .0 b in
-          (ap suc (r .0), λ i v k e. here p a r i v k e),
-      λ r. ap₂ _&&_ (there p r) (ih .1 (omega (arith, r .0), λ i v k e. r .1 (suc i) v (omega (arith, k)) e)),
+-- what is true of the false constraint, and of the demands where the symbol matches, is true of the constraint
+pub constraint-either : (P : Constraint → Type 0) (s : Symbol) (e : Event) → P never
+    → (matches s e ≡ true → P (demands (demandsOf (s .parameters) (e .args)))) → P (constraintOf s e)
+unfolding constraintOf
+constraint-either P s e n d = go (matches s e && f && consistent ds) refl
+  where
+    f : Bool
+    f = fixedAll (s .parameters) (e .args)
+
+    ds : List Demand
+    ds = demandsOf (s .parameters) (e .args)
+
+    go : (b : Bool) → (matches s e && f && consistent ds) ≡ b → P (cond b (demands ds) never)
+    go true h = d (and-true-split (matches s e) f (and-true-split (matches s e && f) (consistent ds) h .0) .0)
+    go false h = n
+
+-- what `equalAll` asks: as many arguments as places, and at each place what the place asks
+equal-places : (σ : Valuation) (ps : List Parameter) (xs : List ℕ)
+    → (equalAll σ ps xs ≡ true) ↔ ((length ps ≡ length xs) × ((i : ℕ) → i < length ps → equalAt σ (getD ps i ignored) (getD xs i 0) ≡ true))
+equal-places σ [] [] = (λ _. (refl, λ i h. absurd (omega (arith, h))), λ _. refl)
+equal-places σ [] (x ∷ xs) = (λ h. absurd (false≢true h), λ r. absurd (omega (arith, r .0)))
+equal-places σ (p ∷ ps) [] = (λ h. absurd (false≢true h), λ r. absurd (omega (arith, r .0)))
+equal-places σ (p ∷ ps) (x ∷ xs) =
+    let ih = equal-places σ ps xs in (
+      λ h. let (a, b) = and-true-split (equalAt σ p x) (equalAll σ ps xs) h in let r = ih .0 b in (ap suc (r .0), λ i k. here a (r .1) i k),
+      λ r. ap₂ _&&_ (r .1 0 (omega arith)) (ih .1 (omega (arith, r .0), λ i k. r .1 (suc i) (omega (arith, k)))),
     )
   where
-    place : (q : Parameter) (v : ℕ) → equalAt σ q x ≡ true → q ≡ names v → getD σ v 0 ≡ x
-    place q v a e = eqb-true (getD σ v 0) x (subst (λ z. equalAt σ z x ≡ true) e a)
-
-    here : (q : Parameter) → equalAt σ q x ≡ true
-        → ((length ps ≡ length xs) × ((i v : ℕ) → i < length ps → getD ps i ignored ≡ names v → getD σ v 0 ≡ getD xs i 0))
-        → (i v : ℕ) → i < suc (length ps) → getD (q ∷ ps) i ignored ≡ names v → getD σ v 0 ≡ getD (x ∷ xs) i 0
-    here q a r zero v k e = place q v a e
-    here q a r (suc i) v k e = r .1 i v (omega (arith, k)) e
-
-    there : (q : Parameter)
-        → ((suc (length ps) ≡ suc (length xs)) × ((i v : ℕ) → i < suc (length ps) → getD (q ∷ ps) i ignored ≡ names v → getD σ v 0 ≡ getD (x ∷ xs) i 0))
-        → equalAt σ q x ≡ true
-    there ignored r = refl
-    there (names v) r = eq-eqb (getD σ v 0) x (r .1 0 v (omega arith) refl)
+    here : equalAt σ p x ≡ true → ((i : ℕ) → i < length ps → equalAt σ (getD ps i ignored) (getD xs i 0) ≡ true)
+        → (i : ℕ) → i < suc (length ps) → equalAt σ (getD (p ∷ ps) i ignored) (getD (x ∷ xs) i 0) ≡ true
+    here a r zero k = a
+    here a r (suc i) k = r i (omega (arith, k))
 
 -- "A symbol matches an event when the kinds are equal and the event's argument count equals the symbol's. Its constraint is then 'variable equals
--- argument' for each bound place", of every symbol, one without ARGS too
+-- argument' for each bound place", of every symbol, one without ARGS too; "false where that argument differs", at each fixed place
 pub holds-words : (s : Symbol) (e : Event) (σ : Valuation)
     → (holds s e σ ≡ true)
     ↔ ((s .kind ≡ e .kind) × (length (s .parameters) ≡ length (e .args))
-    × ((i v : ℕ) → i < length (s .parameters) → getD (s .parameters) i ignored ≡ names v → getD σ v 0 ≡ getD (e .args) i 0))
+    × ((i v : ℕ) → i < length (s .parameters) → getD (s .parameters) i ignored ≡ names v → getD σ v 0 ≡ getD (e .args) i 0)
+    × ((i n : ℕ) → i < length (s .parameters) → getD (s .parameters) i ignored ≡ fixed n → n ≡ getD (e .args) i 0))
 unfolding holds
 holds-words s e σ =
-    let w = equal-words σ (s .parameters) (e .args) in (
-      λ h. let (a, b) = and-true-split (eqb (s .kind) (e .kind)) _ h in let r = w .0 b in (eqb-true _ _ a, r .0, r .1),
-      λ (a, b, c). ap₂ _&&_ (eq-eqb (s .kind) (e .kind) a) (w .1 (b, c)),
+    let w = equal-places σ (s .parameters) (e .args) in (
+      λ h. let (a, b) = and-true-split (eqb (s .kind) (e .kind)) _ h in
+          let (l, r) = w .0 b in
+          (eqb-true _ _ a, l, λ i v k q. eqb-true _ _ (at i q (r i k)), λ i n k q. eqb-true n _ (at i q (r i k))),
+      λ (a, b, f, g). ap₂ _&&_ (eq-eqb (s .kind) (e .kind) a) (w .1 (b, λ i k. by i _ refl (λ v. f i v k) (λ n. g i n k))),
     )
+  where
+    at : {p : Parameter} (i : ℕ) → getD (s .parameters) i ignored ≡ p → equalAt σ (getD (s .parameters) i ignored) (getD (e .args) i 0) ≡ true
+        → equalAt σ p (getD (e .args) i 0) ≡ true
+    at i q h = subst (λ z. equalAt σ z (getD (e .args) i 0) ≡ true) q h
+
+    by : (i : ℕ) (p : Parameter) → getD (s .parameters) i ignored ≡ p
+        → ((v : ℕ) → getD (s .parameters) i ignored ≡ names v → getD σ v 0 ≡ getD (e .args) i 0)
+        → ((n : ℕ) → getD (s .parameters) i ignored ≡ fixed n → n ≡ getD (e .args) i 0)
+        → equalAt σ (getD (s .parameters) i ignored) (getD (e .args) i 0) ≡ true
+    by i ignored q f g = rw q
+    by i (names v) q f g = rw q (eq-eqb (getD σ v 0) (getD (e .args) i 0) (f v q))
+    by i (fixed n) q f g = rw q (eq-eqb n (getD (e .args) i 0) (g n q))
+
+-- "false where that argument differs": it differs at no fixed place
+pub fixed-words : (ps : List Parameter) (xs : List ℕ)
+    → (fixedAll ps xs ≡ true) ↔ ((i n : ℕ) → i < length ps → i < length xs → getD ps i ignored ≡ fixed n → n ≡ getD xs i 0)
+fixed-words [] xs = (λ _ i n h k q. absurd (omega (arith, h)), λ _. refl)
+fixed-words (p ∷ ps) [] = (λ _ i n h k q. absurd (omega (arith, k)), λ _. refl)
+fixed-words (p ∷ ps) (x ∷ xs) =
+    let ih = fixed-words ps xs in (
+      λ h. let (a, b) = and-true-split (fixedAt p x) (fixedAll ps xs) h in there a (ih .0 b),
+      λ f. ap₂ _&&_ (here p (λ n q. f 0 n (omega arith) (omega arith) q)) (ih .1 (λ i n h k q. f (suc i) n (omega (arith, h)) (omega (arith, k)) q)),
+    )
+  where
+    here : (p : Parameter) → ((n : ℕ) → p ≡ fixed n → n ≡ x) → fixedAt p x ≡ true
+    here ignored f = refl
+    here (names v) f = refl
+    here (fixed n) f = eq-eqb n x (f n refl)
+
+    there : fixedAt p x ≡ true → ((i n : ℕ) → i < length ps → i < length xs → getD ps i ignored ≡ fixed n → n ≡ getD xs i 0)
+        → (i n : ℕ) → i < suc (length ps) → i < suc (length xs) → getD (p ∷ ps) i ignored ≡ fixed n → n ≡ getD (x ∷ xs) i 0
+    there a r zero n h k q = eqb-true n x (subst (λ z. fixedAt z x ≡ true) q a)
+    there a r (suc i) n h k q = r i n (omega (arith, h)) (omega (arith, k)) q
 
 -- "An event concerns a valuation if some symbol's constraint holds under it.": any declared symbol, whether the pattern names it or not
 pub concerns-words : (ss : List Symbol) (e : Event) (σ : Valuation)
@@ -131,10 +183,28 @@ valuation-words n σ = (
 abbrev isNamed : Parameter → Bool
 isNamed ignored = false
 isNamed (names v) = true
+isNamed (fixed n) = false
 
 abbrev numberIn : Parameter → ℕ
 numberIn ignored = 0
 numberIn (names v) = v
+numberIn (fixed n) = n
+
+-- some bound place asks what the demand d asks
+abbrev Asked : List Parameter → List ℕ → Demand → Type 0
+Asked ps xs d = (i : ℕ) × (i < length ps) × (i < length xs) × (getD ps i ignored ≡ names (d .variable)) × (getD xs i 0 ≡ d .value)
+
+-- a place that is not bound asks nothing more
+asked-behind : (p : Parameter) (ps : List Parameter) (x : ℕ) (xs : List ℕ) (d : Demand) → isNamed p ≡ false → List·Memᴰ d (demandsOf ps xs) ↔ Asked ps xs d
+    → List·Memᴰ d (demandsOf ps xs) ↔ Asked (p ∷ ps) (x ∷ xs) d
+asked-behind p ps x xs d n ih = (
+  λ m. let (i, h, k, a, b) = ih .0 m in (suc i, omega (arith, h), omega (arith, k), a, b),
+  λ (i, h, k, a, b). ih .1 (before i h k a b),
+)
+  where
+    before : (i : ℕ) → i < suc (length ps) → i < suc (length xs) → getD (p ∷ ps) i ignored ≡ names (d .variable) → getD (x ∷ xs) i 0 ≡ d .value → Asked ps xs d
+    before zero h k a b = absurd (false≢true (sym n ∙ ap isNamed a))
+    before (suc i) h k a b = (i, omega (arith, h), omega (arith, k), a, b)
 
 -- the demands of a symbol's constraint: one for each bound place, with the argument that stands there
 pub demand-words : (ps : List Parameter) (xs : List ℕ) (d : Demand)
@@ -142,33 +212,19 @@ pub demand-words : (ps : List Parameter) (xs : List ℕ) (d : Demand)
     ↔ ((i : ℕ) × (i < length ps) × (i < length xs) × (getD ps i ignored ≡ names (d .variable)) × (getD xs i 0 ≡ d .value))
 demand-words [] xs d = (λ m. absurd (List·Memᴰ·not-nil m), λ (i, h, k, a, b). absurd (omega (arith, h)))
 demand-words (p ∷ ps) [] d = (λ m. absurd (List·Memᴰ·not-nil m), λ (i, h, k, a, b). absurd (omega (arith, k)))
-demand-words (ignored ∷ ps) (x ∷ xs) d =
-    let ih = demand-words ps xs d in (
-      λ m. let (i, h, k, a, b) = ih .0 m in (suc i, omega (arith, h), omega (arith, k), a, b),
-      λ (i, h, k, a, b). ih .1 (before i h k a b),
-    )
-  where
-    before : (i : ℕ) → i < suc (length ps) → i < suc (length xs) → getD (ignored ∷ ps) i ignored ≡ names (d .variable) → getD (x ∷ xs) i 0 ≡ d .value
-        → (i : ℕ) × (i < length ps) × (i < length xs) × (getD ps i ignored ≡ names (d .variable)) × (getD xs i 0 ≡ d .value)
-    before zero h k a b = absurd (false≢true (ap isNamed a))
-    before (suc i) h k a b = (i, omega (arith, h), omega (arith, k), a, b)
+demand-words (ignored ∷ ps) (x ∷ xs) d = asked-behind ignored ps x xs d refl (demand-words ps xs d)
+demand-words (fixed n ∷ ps) (x ∷ xs) d = asked-behind (fixed n) ps x xs d refl (demand-words ps xs d)
 demand-words (names v ∷ ps) (x ∷ xs) d =
     let ih = demand-words ps xs d in (
       found (ih .0),
       λ (i, h, k, a, b). back (ih .1) i h k a b,
     )
   where
-    Told : Type 0
-    Told = (i : ℕ) × (i < suc (length ps)) × (i < suc (length xs)) × (getD (names v ∷ ps) i ignored ≡ names (d .variable)) × (getD (x ∷ xs) i 0 ≡ d .value)
-
-    Further : Type 0
-    Further = (i : ℕ) × (i < length ps) × (i < length xs) × (getD ps i ignored ≡ names (d .variable)) × (getD xs i 0 ≡ d .value)
-
-    found : (List·Memᴰ d (demandsOf ps xs) → Further) → List·Memᴰ d (record { variable = v; value = x } ∷ demandsOf ps xs) → Told
+    found : (List·Memᴰ d (demandsOf ps xs) → Asked ps xs d) → List·Memᴰ d (record { variable = v; value = x } ∷ demandsOf ps xs) → Asked (names v ∷ ps) (x ∷ xs) d
     found f (List·Memᴰ·head e) = (0, omega arith, omega arith, sym (ap (λ c. names (c .variable)) e), sym (ap (λ c. c .value) e))
     found f (List·Memᴰ·tail m) = let (i, h, k, a, b) = f m in (suc i, omega (arith, h), omega (arith, k), a, b)
 
-    back : (Further → List·Memᴰ d (demandsOf ps xs)) → (i : ℕ) → i < suc (length ps) → i < suc (length xs)
+    back : (Asked ps xs d → List·Memᴰ d (demandsOf ps xs)) → (i : ℕ) → i < suc (length ps) → i < suc (length xs)
         → getD (names v ∷ ps) i ignored ≡ names (d .variable) → getD (x ∷ xs) i 0 ≡ d .value
         → List·Memᴰ d (record { variable = v; value = x } ∷ demandsOf ps xs)
     back g zero h k a b = List·Memᴰ·head (ap₂ (λ y z. record { variable = y; value = z }) (sym (ap numberIn a)) (sym b))
@@ -211,25 +267,37 @@ consistent-words ds = (to ds, from ds)
             go false e = refl
 
 -- "A symbol matches an event when the kinds are equal and the event's argument count equals the symbol's. Its constraint is then 'variable equals
--- argument' for each bound place; two unequal demands on one variable make it false, as does no match."
+-- argument' for each bound place; two unequal demands on one variable make it false, as does no match.", and as does another argument at a fixed place
 pub constraint-words : (s : Symbol) (e : Event) → let ds = demandsOf (s .parameters) (e .args) in
     let Holding : Type 0 = (s .kind ≡ e .kind) × (length (s .parameters) ≡ length (e .args))
+    × ((i n : ℕ) → i < length (s .parameters) → getD (s .parameters) i ignored ≡ fixed n → n ≡ getD (e .args) i 0)
     × ((c d : Demand) → List·Memᴰ c ds → List·Memᴰ d ds → c .variable ≡ d .variable → c .value ≡ d .value) in
     (Holding × (constraintOf s e ≡ demands ds)) ⊎ ((Holding → ⊥) × (constraintOf s e ≡ never))
 unfolding constraintOf matches
-constraint-words s e = go (matches s e && consistent (demandsOf (s .parameters) (e .args))) refl
+constraint-words s e = go (matches s e && fixedAll (s .parameters) (e .args) && consistent (demandsOf (s .parameters) (e .args))) refl
   where
+    f : Bool
+    f = fixedAll (s .parameters) (e .args)
+
     ds : List Demand
     ds = demandsOf (s .parameters) (e .args)
 
     Holding : Type 0
     Holding = (s .kind ≡ e .kind) × (length (s .parameters) ≡ length (e .args))
+        × ((i n : ℕ) → i < length (s .parameters) → getD (s .parameters) i ignored ≡ fixed n → n ≡ getD (e .args) i 0)
         × ((c d : Demand) → List·Memᴰ c ds → List·Memᴰ d ds → c .variable ≡ d .variable → c .value ≡ d .value)
 
-    go : (b : Bool) → (matches s e && consistent ds) ≡ b
+    go : (b : Bool) → (matches s e && f && consistent ds) ≡ b
         → (Holding × (cond b (demands ds) never ≡ demands ds)) ⊎ ((Holding → ⊥) × (cond b (demands ds) never ≡ never))
     go true h =
-        let (m, k) = and-true-split (matches s e) (consistent ds) h in
-        let (a, b) = and-true-split (eqb (s .kind) (e .kind)) _ m in
-        inl ((eqb-true _ _ a, eqb-true _ _ b, consistent-words ds .0 k), refl)
-    go false h = inr (λ (a, b, k). false≢true (sym h ∙ ap₂ _&&_ (ap₂ _&&_ (eq-eqb (s .kind) (e .kind) a) (eq-eqb _ _ b)) (consistent-words ds .1 k)), refl)
+        let (m, k) = and-true-split (matches s e && f) (consistent ds) h in
+        let (g, j) = and-true-split (matches s e) f m in
+        let (a, b) = and-true-split (eqb (s .kind) (e .kind)) _ g in
+        let l = eqb-true _ _ b in
+        inl ((eqb-true _ _ a, l, λ i n p. fixed-words (s .parameters) (e .args) .0 j i n p (omega (arith, p, l)), consistent-words ds .0 k), refl)
+    go false h =
+        inr (
+          λ (a, b, j, k). false≢true (sym h ∙ ap₂ _&&_ (ap₂ _&&_ (ap₂ _&&_ (eq-eqb (s .kind) (e .kind) a) (eq-eqb _ _ b))
+              (fixed-words (s .parameters) (e .args) .1 (λ i n p q. j i n p))) (consistent-words ds .1 k)),
+          refl,
+        )

@@ -11,8 +11,8 @@ use Rattle.laws.specs.Bits.{bit, join, single}
 use Rattle.laws.specs.Lists.{any, all, numbers}
 use Rattle.pattern.specs.Regex.{In, nullable, boundBy}
 use Rattle.pattern.specs.Positions as Positions
-use Rattle.meaning.specs.Limits.{variableLimit, symbolLimit, kindLimit, parameterLimit}
-use Rattle.meaning.specs.Events.{Parameter, ignored, names, Symbol}
+use Rattle.meaning.specs.Limits.{variableLimit, symbolLimit, kindLimit, parameterLimit, numberLimit}
+use Rattle.meaning.specs.Events.{Parameter, ignored, names, fixed, Symbol}
 use Rattle.meaning.specs.Meaning.{Tracematch, noSymbol}
 
 -- document 01, "Labels and room": the pattern as numbered positions and sets of them
@@ -98,17 +98,20 @@ endCount b = ones (b .ends)
 abbrev pub binds : ℕ → Parameter → Bool
 binds v ignored = false
 binds v (names u) = eqb v u
+binds v (fixed n) = false
 
 -- the variables that a symbol binds, one bit to a variable
 abbrev pub boundIn : List Parameter → ℕ
 boundIn [] = 0
 boundIn (ignored ∷ ps) = boundIn ps
 boundIn (names v ∷ ps) = join (single v) (boundIn ps)
+boundIn (fixed n ∷ ps) = boundIn ps
 
--- "KIND is 1 to 255 … ARGS are 0 to 4 words, each a declared variable or `_`"
+-- "KIND is 1 to 255 … ARGS are 0 to 4 words, each a declared variable or `_`", or (document 02, change 1) "`=` and a number 0 to 4294967295"
 abbrev pub soundParameter : ℕ → Parameter → Bool
 soundParameter variables ignored = true
 soundParameter variables (names v) = ltb v variables
+soundParameter variables (fixed n) = leb n numberLimit
 
 -- a symbol with every number "in its declared range"
 unfoldable pub soundSymbol : ℕ → Symbol → Bool

@@ -1,4 +1,4 @@
--- Symbols, events, constraints and valuations: document 01, "Events, valuations, rows"; source document 000, 4.2.
+-- Symbols, events, constraints and valuations: document 01, "Events, valuations, rows"; document 02, change 1; source document 000, 4.2.
 use mathlib.Core.Bool.{Bool, true, false, cond, not, _&&_, _||_}
 use mathlib.Core.List.{List, [], _∷_, _++_}
 use Prim.Native.Nat.{ℕ, _^_}
@@ -7,10 +7,11 @@ use lib.ListN.{length, getD}
 use Rattle.laws.specs.Lists.{any, all}
 use Rattle.meaning.specs.Limits.{kindLimit, argumentLimit}
 
--- an argument place of a symbol: `_` ("that argument is ignored"), or a declared variable by its number from 0
+-- an argument place of a symbol: `_` ("that argument is ignored"), a declared variable by its number from 0, or `=` and a number
 pub data Parameter : Type 0 where
   ignored : Parameter
   names : ℕ → Parameter
+  fixed : ℕ → Parameter
 
 -- `sym NAME KIND ARGS`
 pub record Symbol : Type 0 where
@@ -48,6 +49,7 @@ matches s e = eqb (s .kind) (e .kind) && eqb (length (s .parameters)) (length (e
 abbrev pub demandOf : Parameter → ℕ → List Demand
 demandOf ignored x = []
 demandOf (names v) x = record { variable = v; value = x } ∷ []
+demandOf (fixed n) x = []
 
 -- "'variable equals argument' for each bound place"
 abbrev pub demandsOf : List Parameter → List ℕ → List Demand
@@ -64,9 +66,23 @@ abbrev pub consistent : List Demand → Bool
 consistent [] = true
 consistent (d ∷ ds) = all (compatible d) ds && consistent ds
 
+-- "The symbol's constraint is false where that argument differs." (document 02, change 1): whether it does not, at a place
+abbrev pub fixedAt : Parameter → ℕ → Bool
+fixedAt ignored x = true
+fixedAt (names v) x = true
+fixedAt (fixed n) x = eqb n x
+
+-- the same at each place of a symbol
+abbrev pub fixedAll : List Parameter → List ℕ → Bool
+fixedAll [] xs = true
+fixedAll (p ∷ ps) [] = true
+fixedAll (p ∷ ps) (x ∷ xs) = fixedAt p x && fixedAll ps xs
+
 -- the symbol's constraint on an event; "as does no match"
 unfoldable pub constraintOf : Symbol → Event → Constraint
-constraintOf s e = let ds = demandsOf (s .parameters) (e .args) in cond (matches s e && consistent ds) (demands ds) never
+constraintOf s e =
+    let ds = demandsOf (s .parameters) (e .args) in
+    cond (matches s e && fixedAll (s .parameters) (e .args) && consistent ds) (demands ds) never
 
 -- a number for each variable, by declaration
 abbrev pub Valuation : Type 0
@@ -86,10 +102,11 @@ satisfies never σ = false
 satisfies (demands ds) σ = all (agrees σ) ds
 
 -- "'variable equals argument' for each bound place", read for a valuation straight from the symbol and the event: no demand is
--- gathered and none is compared with another. An ignored place asks nothing.
+-- gathered and none is compared with another. An ignored place asks nothing; at a fixed place the argument is the number.
 abbrev pub equalAt : Valuation → Parameter → ℕ → Bool
 equalAt σ ignored x = true
 equalAt σ (names v) x = eqb (getD σ v 0) x
+equalAt σ (fixed n) x = eqb n x
 
 -- the same at each place of a symbol
 abbrev pub equalAll : Valuation → List Parameter → List ℕ → Bool
@@ -99,8 +116,8 @@ equalAll σ (p ∷ ps) [] = false
 equalAll σ (p ∷ ps) (x ∷ xs) = equalAt σ p x && equalAll σ ps xs
 
 -- The declarative meaning's own word for "the symbol's constraint on the event holds under the valuation": the kinds are equal, there are as
--- many arguments as places, and each bound place's variable equals its argument. `matches` and the matcher's constraint do not enter; that
--- they say the same is a law (../proofs/Holds.antt).
+-- many arguments as places, each bound place's variable equals its argument and each fixed place's number equals its argument. `matches` and
+-- the matcher's constraint do not enter; that they say the same is a law (../proofs/Holds.antt).
 unfoldable pub holds : Symbol → Event → Valuation → Bool
 holds s e σ = eqb (s .kind) (e .kind) && equalAll σ (s .parameters) (e .args)
 

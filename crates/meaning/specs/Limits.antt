@@ -1,4 +1,4 @@
--- The limits of document 01 on what a book declares ("The book") and on events, each by its sentence. The limit of a pattern's occurrences is
+-- The limits of documents 01 and 02 on what a book declares ("The book"; change 1) and on events, each by its sentence. The limit of a pattern's occurrences is
 -- `occurrenceLimit` of the crate pattern; those of a text's bytes are in the crate form.
 use Prim.Native.Nat.{ℕ}
 
@@ -17,6 +17,10 @@ kindLimit = 255
 -- "ARGS are 0 to 4 words"
 abbrev pub parameterLimit : ℕ
 parameterLimit = 4
+
+-- "`=` and a number 0 to 4294967295" (document 02, change 1)
+abbrev pub numberLimit : ℕ
+numberLimit = 4294967295
 
 -- "byte 1 argument count (0 to 4)"
 abbrev pub argumentLimit : ℕ

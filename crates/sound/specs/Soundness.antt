@@ -23,9 +23,9 @@ use Rattle.book.specs.Books.{viewBook}
 use Rattle.state.specs.declared.State.{State}
 use Rattle.state.specs.States.{viewState}
 
--- a symbol whose counts and tags are in range: at most four places, each ignored (0) or a variable (1)
+-- a symbol whose counts and tags are in range: at most four places, each ignored (0), a variable (1) or a fixed number (2)
 unfoldable pub symbolCounts : Symbol → Bool
-symbolCounts y = leb (y .count) parameterLimit && all (λ p. leb (p .tag) 1) (take (y .count) (y .parameters))
+symbolCounts y = leb (y .count) parameterLimit && all (λ p. leb (p .tag) 2) (take (y .count) (y .parameters))
 
 -- a name whose place is in range: it ends where a text may end, "A book is ASCII text, at most 4,096 bytes."
 abbrev pub namePlaced : Name → Bool

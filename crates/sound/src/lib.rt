@@ -44,20 +44,20 @@ pub fn within(x: usize, low: usize, high: usize) -> bool
     x <= high
 }
 
-// An argument place: ignored, or one of the variables.
+// An argument place: ignored, one of the variables, or fixed: then any number is in range.
 fn sound_parameter(p: Parameter, variables: usize) -> bool
-    ensures { λ r. ⌜ r ≡ (leb (p .tag) 1 && soundParameter variables (viewParameter p)) ⌝ }
+    ensures { λ r. ⌜ r ≡ (leb (p .tag) 2 && soundParameter variables (viewParameter p)) ⌝ }
 {
     let v = p.number as usize;
     if p.tag == 1 {
         return v < variables;
     }
-    p.tag == 0
+    p.tag <= 2
 }
 
 fn sound_parameters(parameters: [Parameter; PARAMETERS], n: usize, variables: usize) -> bool
     requires { ⌜ n ≤ parameterLimit ⌝ }
-    ensures { λ r. ⌜ r ≡ all (λ p. leb (p .tag) 1 && soundParameter variables (viewParameter p)) (take n parameters) ⌝ }
+    ensures { λ r. ⌜ r ≡ all (λ p. leb (p .tag) 2 && soundParameter variables (viewParameter p)) (take n parameters) ⌝ }
 {
     let mut i: usize = 0;
     while i < n {

@@ -30,6 +30,7 @@ maskBits = 32
 abbrev pub parameterOf : Events.Parameter → Parameter
 parameterOf Events.Parameter.ignored = record { tag = 0; number = 0 }
 parameterOf (Events.Parameter.names v) = record { tag = 1; number = v }
+parameterOf (Events.Parameter.fixed n) = record { tag = 2; number = n }
 
 unfoldable pub symbolOf : Events.Symbol → Symbol
 symbolOf y =
@@ -56,7 +57,9 @@ tableOf t =
 
 -- code to plain: what is counted, and nothing beyond
 abbrev pub viewParameter : Parameter → Events.Parameter
-viewParameter p = cond (eqb (p .tag) 1) (Events.Parameter.names (p .number)) Events.Parameter.ignored
+viewParameter p =
+    cond (eqb (p .tag) 1) (Events.Parameter.names (p .number))
+    (cond (eqb (p .tag) 2) (Events.Parameter.fixed (p .number)) Events.Parameter.ignored)
 
 unfoldable pub viewSymbol : Symbol → Events.Symbol
 viewSymbol y = record { kind = y .kind; parameters = map viewParameter (take (y .count) (y .parameters)) }
@@ -77,7 +80,7 @@ abbrev pub inside : ℕ → Span → Bool
 inside n x = leb (x .start + x .size) n
 
 -- a table that the reader has built over the text s: canonical, within the limits, its names inside the text, its
--- parameters ignored or declared variables
+-- parameters ignored, declared variables or fixed numbers
 pub record Ready (s : Bytes) (t : Table) : Type 0 where
   pub coded : t ≡ tableOf (viewTable t)
   pub fewVariables : t .variables ≤ variableLimit

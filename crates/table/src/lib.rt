@@ -20,7 +20,7 @@ pub const PARAMETERS: usize = 4;
 
 pub const NAMES: usize = VARIABLES + SYMBOLS;
 
-// A parameter of a symbol: tag 0, ignored; tag 1, the variable with that number.
+// A parameter of a symbol: tag 0, ignored; tag 1, the variable with that number; tag 2, that number itself, fixed.
 pub struct Parameter {
     pub tag: u32,
     pub number: u32,
