@@ -19,7 +19,7 @@ use Rattle.pattern.specs.Regex.{In}
 use Rattle.pattern.specs.Positions.{size, symbols, beginning, ending, following, symbolAt, Has, Reach, start, next as onto}
 use Rattle.pattern.proofs.Masks.{Among, beginning-among, ending-among, following-among, symbolAt-list, symbols-length}
 use Rattle.pattern.proofs.Spell.{positions-left}
-use Rattle.meaning.specs.Events.{Parameter, ignored, names, Symbol, Event, Valuation}
+use Rattle.meaning.specs.Events.{Parameter, ignored, names, fixed, Symbol, Event, Valuation}
 use Rattle.meaning.specs.Events.{word32, wellFormed, isValuation, equalAll, holds, concerns}
 use Rattle.meaning.specs.Meaning.{Tracematch, noSymbol, noEvent, concerning, stretch, Reading, nothing, next, Match}
 use Rattle.meaning.specs.Labels as Labels
@@ -399,6 +399,7 @@ bound-argument σ v (names u ∷ ps) (x ∷ xs) b h =
     let hs = and-true-split (eqb (getD σ u 0) x) (equalAll σ ps xs) h in
     ⊎-elim (λ e. List·Memᴰ·head (ap (λ i. getD σ i 0) (eqb-true v u e) ∙ eqb-true (getD σ u 0) x (hs .0)))
     (λ k. List·Memᴰ·tail (bound-argument σ v ps xs k (hs .1))) (or-true-split (eqb v u) (any (binds v) ps) b)
+bound-argument σ v (fixed n ∷ ps) (x ∷ xs) b h = List·Memᴰ·tail (bound-argument σ v ps xs b (and-true-split (eqb n x) (equalAll σ ps xs) h .1))
 
 -- so a variable that a symbol binds has an argument of each event on which the symbol holds
 holds-argument : (s : Symbol) (e : Event) (σ : Valuation) (v : ℕ) → holds s e σ ≡ true → any (binds v) (s .parameters) ≡ true

@@ -16,14 +16,15 @@ use Rattle.laws.proofs.Lists.{and-true-split, or-true-split, any-append, any-ag
 use Rattle.pattern.specs.Positions as Positions
 use Rattle.pattern.specs.Positions.{Has, Reach, start, next}
 use Rattle.pattern.proofs.Masks.{Among, beginning-among, following-among}
-use Rattle.meaning.specs.Events.{Parameter, ignored, names, Symbol, Event, Demand, Constraint, never, demands}
-use Rattle.meaning.specs.Events.{matches, demandsOf, consistent, constraintOf}
+use Rattle.meaning.specs.Events.{Parameter, ignored, names, fixed, Symbol, Event, Demand, Constraint, never, demands}
+use Rattle.meaning.specs.Events.{matches, demandsOf, constraintOf}
 use Rattle.meaning.specs.Meaning.{Tracematch, noSymbol}
 use Rattle.meaning.specs.Book.{Book, bookOf, startingAt, Proper, binds, positions, endsAt, followsAt, symbolOf}
 use Rattle.meaning.specs.Labels.{Entry, bound, free, Disjunct, entryOf, isFree, bind, metAll, meets, met}
 use Rattle.meaning.specs.Labels.{excluding, skipOne, Held, sources, stepSet, skipSet, newHeld, freshAt}
 use Rattle.meaning.specs.Rows.{leavesFree}
 use Rattle.meaning.specs.Runs.{Call, run, heldAfter}
+use Rattle.meaning.proofs.Holds.{constraint-either}
 use Rattle.automaton.proofs.Fits.{met-length}
 use Rattle.automaton.proofs.Members.{stepSet-member}
 use Rattle.automaton.proofs.Stems.{skip-cases, label-held, skip-kept, source-cases, new-cases}
@@ -66,6 +67,7 @@ demands-of v [] xs h = refl
 demands-of v (p ∷ ps) [] h = absurd (omega arith)
 demands-of v (ignored ∷ ps) (x ∷ xs) h = demands-of v ps xs (omega arith)
 demands-of v (names u ∷ ps) (x ∷ xs) h = ap (λ t. eqb v u || t) (demands-of v ps xs (omega arith))
+demands-of v (fixed n ∷ ps) (x ∷ xs) h = demands-of v ps xs (omega arith)
 
 met-keeps : (c : Constraint) (D : Disjunct) (v : ℕ) → v < length D → hasValue D v → hasValue (met D c) v
 met-keeps never D v h k = k
@@ -77,15 +79,9 @@ matches-length s e h = eqb-true _ _ (and-true-split (eqb (s .kind) (e .kind)) _ 
 
 met-binds : (s : Symbol) (e : Event) (D : Disjunct) (v : ℕ) → v < length D → meets D (constraintOf s e) ≡ true → any (binds v) (s .parameters) ≡ true
     → hasValue (met D (constraintOf s e)) v
-unfolding constraintOf
-met-binds s e D v h m k = go (matches s e && consistent ds) refl m
-  where
-    ds : List Demand
-    ds = demandsOf (s .parameters) (e .args)
-
-    go : (t : Bool) → (matches s e && consistent ds) ≡ t → meets D (cond t (demands ds) never) ≡ true → hasValue (met D (cond t (demands ds) never)) v
-    go true q n = metAll-binds ds D v h (demands-of v (s .parameters) (e .args) (matches-length s e (and-true-split (matches s e) (consistent ds) q .0)) ∙ k)
-    go false q n = absurd (false≢true n)
+met-binds s e D v h m k =
+    constraint-either (λ c. meets D c ≡ true → hasValue (met D c) v) s e (λ n. absurd (false≢true n))
+    (λ q _. metAll-binds (demandsOf (s .parameters) (e .args)) D v h (demands-of v (s .parameters) (e .args) (matches-length s e q) ∙ k)) m
 
 -- past a symbol the same variables are free
 excluding-free : (x : Entry) (a : ℕ) → isFree (excluding x a) ≡ isFree x

@@ -13,12 +13,13 @@ use Rattle.laws.specs.Lists.{any, all, keep}
 use Rattle.laws.proofs.Lists.{and-true-split, and-swap, and-front, eqb-swap, any-map, all-map, any-keep, any-and, any-agree, all-at, all-of}
 use Rattle.laws.proofs.Order.{compare-order}
 use Rattle.laws.proofs.Sets.{any-insert}
-use Rattle.meaning.specs.Events.{Parameter, ignored, names, Symbol, Event, Demand, Constraint, never, demands, demandsOf, matches, consistent}
+use Rattle.meaning.specs.Events.{Parameter, ignored, names, fixed, Symbol, Event, Demand, Constraint, never, demands, demandsOf}
 use Rattle.meaning.specs.Events.{constraintOf, Valuation, agrees, satisfies}
 use Rattle.meaning.specs.Book.{soundParameter}
 use Rattle.meaning.specs.Labels.{Entry, bound, free, Disjunct, freeDisjunct, entryOf, isFree, admits, bind, meetsAll, metAll, meets, met}
 use Rattle.meaning.specs.Labels.{skipOne, excluding, exclude}
 use Rattle.meaning.specs.Rows.{valuationOf}
+use Rattle.meaning.proofs.Holds.{constraint-either}
 
 -- every value is admitted by its entry
 abbrev pub fits : Valuation → Disjunct → Bool
@@ -38,15 +39,11 @@ parameters-inRange n (p ∷ ps) [] h = refl
 parameters-inRange n (ignored ∷ ps) (x ∷ xs) h = parameters-inRange n ps xs h
 parameters-inRange n (names v ∷ ps) (x ∷ xs) h =
     let hs = and-true-split (ltb v n) (all (soundParameter n) ps) h in ap₂ _&&_ (hs .0) (parameters-inRange n ps xs (hs .1))
+parameters-inRange n (fixed m ∷ ps) (x ∷ xs) h = parameters-inRange n ps xs (and-true-split (soundParameter n (fixed m)) (all (soundParameter n) ps) h .1)
 
 -- a symbol over declared variables demands values of those only
 pub constraint-inRange : (n : ℕ) (s : Symbol) (e : Event) → all (soundParameter n) (s .parameters) ≡ true → inRange n (constraintOf s e) ≡ true
-unfolding constraintOf
-constraint-inRange n s e h = go (matches s e && consistent (demandsOf (s .parameters) (e .args)))
-  where
-    go : (b : Bool) → inRange n (cond b (demands (demandsOf (s .parameters) (e .args))) never) ≡ true
-    go true = parameters-inRange n (s .parameters) (e .args) h
-    go false = refl
+constraint-inRange n s e h = constraint-either (λ c. inRange n c ≡ true) s e refl (λ _. parameters-inRange n (s .parameters) (e .args) h)
 
 metAll-length : (D : Disjunct) (ds : List Demand) → length (metAll D ds) ≡ length D
 metAll-length D [] = refl

@@ -21,8 +21,8 @@ use Rattle.pattern.specs.Positions as Positions
 use Rattle.pattern.proofs.Masks.{beginning-among, ending-among, following-among, beginning-below, ending-below, following-below}
 use Rattle.pattern.proofs.Masks.{size-pos, symbols-length}
 use Rattle.pattern.proofs.Words.{empty-word}
-use Rattle.meaning.specs.Events.{Parameter, ignored, names, Symbol, Event, word32, wellFormed, Demand, Constraint, never, demands}
-use Rattle.meaning.specs.Events.{matches, demandsOf, consistent, constraintOf}
+use Rattle.meaning.specs.Events.{Parameter, ignored, names, fixed, Symbol, Event, word32, wellFormed, Demand, Constraint, never, demands}
+use Rattle.meaning.specs.Events.{demandsOf, constraintOf}
 use Rattle.meaning.specs.Meaning.{Tracematch}
 use Rattle.meaning.specs.Book.{Book, bookOf, Proper, symbolOf, soundMask, soundBook}
 use Rattle.meaning.specs.Labels.{Entry, bound, free, Disjunct, entryOf, exclusions, bind, met, excluding, exclude}
@@ -32,6 +32,7 @@ use Rattle.meaning.specs.Room.{fewExclusions, setRoom, skipRoom, room}
 use Rattle.meaning.specs.Rows.{leavesFree}
 use Rattle.meaning.specs.Sound.{soundEntry, soundPiece, soundHeld, eventLimit, soundState}
 use Rattle.meaning.specs.Runs.{Call, sentEvent, wasTaken, traceOf, run, stateAfter, heldAfter, Admissible, OrderlyFrom, Orderly}
+use Rattle.meaning.proofs.Holds.{constraint-either}
 use Rattle.automaton.proofs.Orders.{held-order}
 use Rattle.automaton.proofs.Fits.{met-length, skip-length}
 use Rattle.automaton.proofs.Members.{stepSet-member, newLabel-ascending}
@@ -62,14 +63,13 @@ demands-words (ignored ∷ ps) (x ∷ xs) h = demands-words ps xs (and-true-spli
 demands-words (names v ∷ ps) (x ∷ xs) h =
     let s = and-true-split (word32 x) (all word32 xs) h in
     ap₂ _&&_ (s .0) (demands-words ps xs (s .1))
+demands-words (fixed n ∷ ps) (x ∷ xs) h = demands-words ps xs (and-true-split (word32 x) (all word32 xs) h .1)
 
 constraint-words : (s : Symbol) (e : Event) → wellFormed e ≡ true → all asksWord (asked (constraintOf s e)) ≡ true
-unfolding constraintOf wellFormed
-constraint-words s e h = go (matches s e && consistent (demandsOf (s .parameters) (e .args)))
-  where
-    go : (t : Bool) → all asksWord (asked (cond t (demands (demandsOf (s .parameters) (e .args))) never)) ≡ true
-    go true = demands-words (s .parameters) (e .args) (and-true-split (leb 1 (e .kind) && leb (e .kind) 255 && leb (length (e .args)) 4) _ h .1)
-    go false = refl
+unfolding wellFormed
+constraint-words s e h =
+    constraint-either (λ c. all asksWord (asked c) ≡ true) s e refl
+    (λ _. demands-words (s .parameters) (e .args) (and-true-split (leb 1 (e .kind) && leb (e .kind) 255 && leb (length (e .args)) 4) _ h .1))
 
 -- what is sound of an entry but for the number of its exclusions
 abbrev soundValues : Entry → Bool

@@ -14,7 +14,7 @@ use Rattle.laws.specs.Lists.{any, all, numbers}
 use Rattle.laws.proofs.Bits.{bit-zero, bit-join, bit-single-same, bit-single-other}
 use Rattle.laws.proofs.Lists.{all-at, all-of, mem-numbers}
 use Rattle.pattern.proofs.Words as Words
-use Rattle.meaning.specs.Events.{Parameter, ignored, names}
+use Rattle.meaning.specs.Events.{Parameter, ignored, names, fixed}
 use Rattle.meaning.specs.Meaning.{Tracematch, noSymbol}
 use Rattle.meaning.specs.Book.{Proper, isProper, binds, boundIn}
 
@@ -25,6 +25,7 @@ bit-single v u = dite (ℕ-discrete v u) (λ e. rw (e, bit-single-same, eq-eqb u
 pub bit-boundIn : (v : ℕ) (ps : List Parameter) → bit v (boundIn ps) ≡ any (binds v) ps
 bit-boundIn v [] = bit-zero v
 bit-boundIn v (ignored ∷ ps) = bit-boundIn v ps
+bit-boundIn v (fixed n ∷ ps) = bit-boundIn v ps
 bit-boundIn v (names u ∷ ps) = bit-join v (single u) (boundIn ps) ∙ ap₂ _||_ (bit-single v u) (bit-boundIn v ps)
 
 -- a test that passes just where P does not hold, and one of all numbers below n

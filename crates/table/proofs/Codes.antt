@@ -1,11 +1,11 @@
 -- What is coded is read back; the names as `find` looks through them; and a table stays ready as names are added.
 use mathlib.Core.Path.{_≡_, refl, sym, ap, ap₂, _∙_}
-use mathlib.Core.Bool.{true}
+use mathlib.Core.Bool.{Bool, true, false, cond}
 use mathlib.Core.List.{List, [], _∷_, _++_, map, map-append, append-nil, append-assoc}
 use Prim.Native.Nat.{ℕ, _+_, _-_, _≤_, _<_}
 use native.Mathlib.Omega.{arith}
-use lib.Dec.{leb}
-use borrow.Author.Tests.{le-leb}
+use lib.Dec.{eqb, leb}
+use borrow.Author.Tests.{eqb-true, eqb-false, le-leb}
 use lib.ListN.{length, take, drop, set, length-append, length-take, length-drop, length-replicate, length-map}
 use lib.Seq.{take-all, take-at, drop-at, take-add}
 use Rattle.laws.specs.Lists.{all}
@@ -17,6 +17,7 @@ use Rattle.meaning.specs.Meaning.{noSymbol}
 use Rattle.meaning.specs.Book.{soundParameter}
 use Rattle.form.specs.Text.{Bytes, Span}
 use Rattle.form.specs.Lines as Lines
+use Rattle.table.specs.declared.Parameter.{Parameter}
 use Rattle.table.specs.declared.Symbol.{Symbol}
 use Rattle.table.specs.declared.Table.{Table}
 use Rattle.table.specs.Tables.{parameterOf, symbolOf, nameOf, tableOf, viewParameter, viewSymbol, noName, spanOf, viewTable, inside, Ready}
@@ -47,6 +48,22 @@ module _ {A B : Type 0} (n : ℕ) (d : B) (f : A → B) where
 view-parameter : (p : Events.Parameter) → viewParameter (parameterOf p) ≡ p
 view-parameter Events.Parameter.ignored = refl
 view-parameter (Events.Parameter.names v) = refl
+view-parameter (Events.Parameter.fixed n) = refl
+
+-- what the tag of a place says
+pub view-either : (P : Events.Parameter → Type 0) (p : Parameter) → (p .tag ≡ 1 → P (Events.Parameter.names (p .number)))
+    → (p .tag ≡ 2 → P (Events.Parameter.fixed (p .number))) → ((p .tag ≡ 1 → ⊥) → (p .tag ≡ 2 → ⊥) → P Events.Parameter.ignored) → P (viewParameter p)
+view-either P p named fixed neither = by (eqb (p .tag) 1) (eqb (p .tag) 2) refl refl
+  where
+    by : (a b : Bool) → eqb (p .tag) 1 ≡ a → eqb (p .tag) 2 ≡ b
+        → P (cond a (Events.Parameter.names (p .number)) (cond b (Events.Parameter.fixed (p .number)) Events.Parameter.ignored))
+    by true b e f = named (eqb-true (p .tag) 1 e)
+    by false true e f = fixed (eqb-true (p .tag) 2 f)
+    by false false e f = neither (eqb-false (p .tag) 1 e) (eqb-false (p .tag) 2 f)
+
+pub view-named : (p : Parameter) → p .tag ≡ 1 → viewParameter p ≡ Events.Parameter.names (p .number)
+view-named p h =
+    view-either (λ x. x ≡ Events.Parameter.names (p .number)) p (λ _. refl) (λ k. absurd (omega (arith, h, k))) (λ n _. absurd (n h))
 
 view-back : (y : Events.Symbol) → viewSymbol (symbolOf y) ≡ y
 unfolding viewSymbol symbolOf

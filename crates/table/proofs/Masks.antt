@@ -5,7 +5,7 @@ use mathlib.Core.List.{List, [], _∷_}
 use Prim.Native.Nat.{ℕ}
 use Rattle.laws.specs.Bits.{bit, join, single}
 use Rattle.laws.proofs.Bits.{bit-join, bits-equal, join-none, none-join}
-use Rattle.meaning.specs.Events.{Parameter, ignored, names}
+use Rattle.meaning.specs.Events.{Parameter, ignored, names, fixed}
 use Rattle.meaning.specs.Book.{boundIn}
 
 join-assoc : (a b c : ℕ) → join (join a b) c ≡ join a (join b c)
@@ -14,6 +14,7 @@ join-assoc a b c =
 
 bound-cons : (p : Parameter) (ps : List Parameter) → boundIn (p ∷ ps) ≡ join (boundIn (p ∷ [])) (boundIn ps)
 bound-cons ignored ps = sym (none-join (boundIn ps))
+bound-cons (fixed n) ps = sym (none-join (boundIn ps))
 bound-cons (names v) ps = ap (λ m. join m (boundIn ps)) (sym (join-none (single v)))
 
 -- the mask r of the first parameter, joined to m before the masks of the others
