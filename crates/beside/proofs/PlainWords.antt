@@ -14,7 +14,7 @@ use Rattle.runs.specs.Runs.{noCall, nextCall}
 use Rattle.runs.specs.Pairs.{Pairing}
 use Rattle.pattern.specs.Regex.{Regex, lit, cat, alt, star, plus, opt, In}
 use Rattle.pattern.specs.Positions.{size, symbols, beginning, ending, following, symbolAt, Has, Onward, stop, on, Spelling, Reach, start, next}
-use Rattle.meaning.specs.Events.{ignored, names, Symbol, Event, Valuation, wellFormed, isValuation, concerns, constraintOf}
+use Rattle.meaning.specs.Events.{ignored, names, fixed, Symbol, Event, Valuation, wellFormed, isValuation, concerns, constraintOf}
 use Rattle.meaning.specs.Meaning.{Tracematch, noSymbol, concerning, Row}
 use Rattle.meaning.specs.Book.{Book, bookOf, positions, endsAt, symbolOf, binds, soundParameter, soundSymbol, soundMask, soundBook, Proper}
 use Rattle.meaning.specs.Labels as Labels
@@ -122,7 +122,7 @@ proper-said tm = (
 
 -- a sound symbol, a sound set of positions and a sound plain book
 pub sound-book-said : (b : Book) (s : Symbol) (n v m : ℕ)
-    → (soundParameter n ignored ≡ true) × (soundParameter n (names v) ≡ ltb v n)
+    → (soundParameter n ignored ≡ true) × (soundParameter n (names v) ≡ ltb v n) × (soundParameter n (fixed v) ≡ leb v 4294967295)
     × (soundSymbol n s ≡ (leb 1 (s .kind) && leb (s .kind) 255 && leb (length (s .parameters)) 4 && all (soundParameter n) (s .parameters)))
     × (soundMask n m ≡ (ltb m (2 ^ suc n) && not (bit 0 m)))
     × (soundBook b
@@ -131,7 +131,7 @@ pub sound-book-said : (b : Book) (s : Symbol) (n v m : ℕ)
     && soundMask (length (b .occurrences)) (b .begins) && soundMask (length (b .occurrences)) (b .ends)
     && eqb (length (b .follows)) (length (b .occurrences)) && all (soundMask (length (b .occurrences))) (b .follows) && not (b .empty)))
 unfolding soundSymbol soundBook
-sound-book-said b s n v m = (refl, refl, refl, refl, refl)
+sound-book-said b s n v m = (refl, refl, refl, refl, refl, refl)
 
 -- a sound entry, disjunct, held disjunct and plain state
 pub plain-sound-said : (b : Book) (h : Held) (held : List Held) (s : State) (D : Disjunct) (n a : ℕ) (xs : List ℕ)

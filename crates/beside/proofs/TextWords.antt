@@ -12,7 +12,7 @@ use Rattle.pattern.specs.Regex.{Regex, lit, cat, alt, star, plus, opt}
 use Rattle.pattern.specs.Positions.{size}
 use Rattle.pattern.proofs.Usual.{marked}
 use Rattle.pattern.proofs.Textbook.{Times}
-use Rattle.meaning.specs.Events.{ignored, names}
+use Rattle.meaning.specs.Events.{ignored, names, fixed}
 use Rattle.form.specs.Text.{Bytes, space, isNameByte, ascii, decimal, SymbolLine}
 use Rattle.form.specs.Tokens.{Token, name, sign}
 use Rattle.form.proofs.Grammar.{namesIn}
@@ -44,14 +44,15 @@ named-said w = refl
 
 pub line-said : (n : ℕ) (l : SymbolLine)
     → Lined n l
-    ≡ ((1 ≤ l .kind) × (l .kind ≤ 255) × (length (l .parameters) ≤ 4) × ((v : ℕ) → List·Memᴰ (names v) (l .parameters) → v < n))
+    ≡ ((1 ≤ l .kind) × (l .kind ≤ 255) × (length (l .parameters) ≤ 4) × ((v : ℕ) → List·Memᴰ (names v) (l .parameters) → v < n)
+    × ((m : ℕ) → List·Memᴰ (fixed m) (l .parameters) → m ≤ 4294967295))
 line-said n l = refl
 
 pub written-said : (vs : List Bytes) (v : ℕ) (l : SymbolLine)
-    → (argumentWritten vs ignored ≡ 95 ∷ []) × (argumentWritten vs (names v) ≡ getD vs v [])
+    → (argumentWritten vs ignored ≡ 95 ∷ []) × (argumentWritten vs (names v) ≡ getD vs v []) × (argumentWritten vs (fixed v) ≡ 61 ∷ decimal v)
     × (lineWritten vs l
     ≡ ascii "sym" ++ (32 ∷ l .name ++ (32 ∷ decimal (l .kind) ++ (gather (λ p. 32 ∷ argumentWritten vs p) (l .parameters) ++ (10 ∷ [])))))
-written-said vs v l = (refl, refl, refl)
+written-said vs v l = (refl, refl, refl, refl)
 
 pub ends-said : (b : ℕ) (l : Bytes) → (nameEnds [] ≡ true) × (nameEnds (b ∷ l) ≡ not (isNameByte b))
 ends-said b l = (refl, refl)
@@ -65,7 +66,7 @@ pub placed-said : (p n : ℕ) → placed p n ≡ record { start = p; size = n }
 placed-said p n = refl
 
 pub coded-said : (v : ℕ) (l : SymbolLine)
-    → (coded ignored ≡ record { tag = 0; number = 0 }) × (coded (names v) ≡ record { tag = 1; number = v })
+    → (coded ignored ≡ record { tag = 0; number = 0 }) × (coded (names v) ≡ record { tag = 1; number = v }) × (coded (fixed v) ≡ record { tag = 2; number = v })
     × (lined l
     ≡ record { kind = l .kind; count = length (l .parameters); parameters = pad 4 (record { tag = 0; number = 0 }) (map coded (l .parameters)) })
-coded-said v l = (refl, refl, refl)
+coded-said v l = (refl, refl, refl, refl)

@@ -6,7 +6,7 @@ use mathlib.Core.List.{List}
 use mathlib.Core.Logic.{_⊎_, inl, inr}
 use Prim.Native.Nat.{ℕ}
 use Rattle.pattern.specs.Regex.{Regex, lit, cat, alt, star, plus, opt}
-use Rattle.meaning.specs.Events.{Parameter, ignored, names, Symbol, Event, Valuation, Demand, Constraint, never, demands}
+use Rattle.meaning.specs.Events.{Parameter, ignored, names, fixed, Symbol, Event, Valuation, Demand, Constraint, never, demands}
 use Rattle.meaning.specs.Meaning.{Tracematch}
 use Rattle.meaning.specs.Book as Plain
 use Rattle.meaning.specs.Labels as Labels
@@ -27,9 +27,10 @@ pub lists-said : (Bytes ≡ List ℕ) × (Valuation ≡ List ℕ) × (Disjunct �
 lists-said = (refl, refl, refl)
 
 -- one case or another
-pub parameter-whole : (p : Parameter) → (p ≡ ignored) ⊎ ((v : ℕ) × (p ≡ names v))
+pub parameter-whole : (p : Parameter) → (p ≡ ignored) ⊎ (((v : ℕ) × (p ≡ names v)) ⊎ ((n : ℕ) × (p ≡ fixed n)))
 parameter-whole ignored = inl refl
-parameter-whole (names v) = inr (v, refl)
+parameter-whole (names v) = inr (inl (v, refl))
+parameter-whole (fixed n) = inr (inr (n, refl))
 
 pub constraint-whole : (c : Constraint) → (c ≡ never) ⊎ ((ds : List Demand) × (c ≡ demands ds))
 constraint-whole never = inl refl

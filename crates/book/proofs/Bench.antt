@@ -118,6 +118,7 @@ few-parameters v l h = all-of _ l λ y m. simp and-eq-true-iff at (all-at (sound
 abbrev pub coded : Events.Parameter → HeldParameter.Parameter
 coded Events.Parameter.ignored = record { tag = 0; number = 0 }
 coded (Events.Parameter.names v) = record { tag = 1; number = v }
+coded (Events.Parameter.fixed n) = record { tag = 2; number = n }
 
 abbrev pub lined : SymbolLine → HeldSymbol.Symbol
 lined l = record { kind = l .kind; count = length (l .parameters); parameters = pad 4 (record { tag = 0; number = 0 }) (map coded (l .parameters)) }
@@ -126,6 +127,7 @@ parameters-held : (ps : List Events.Parameter) → map parameterOf ps ≡ map co
 parameters-held [] = refl
 parameters-held (Events.Parameter.ignored ∷ ps) = ap (λ l. record { tag = 0; number = 0 } ∷ l) (parameters-held ps)
 parameters-held (Events.Parameter.names v ∷ ps) = ap (λ l. record { tag = 1; number = v } ∷ l) (parameters-held ps)
+parameters-held (Events.Parameter.fixed n ∷ ps) = ap (λ l. record { tag = 2; number = n } ∷ l) (parameters-held ps)
 
 lines-held : (ls : List SymbolLine) → map symbolOf (map Text.symbolOf ls) ≡ map lined ls
 unfolding symbolOf
@@ -203,7 +205,7 @@ module _ (s : Bytes) where
   eight = rw (answer-number s) (Accepted.eight s)
 
   -- every field of the book from the declarations and the tree themselves, every array with its padding: "one bit to a position", positions from 1, an
-  -- argument place with its variable's number or ignored; the names are `book-names`. What the masks say of words is `positions` (crate pattern).
+  -- argument place with its variable's number, ignored or with its fixed number; the names are `book-names`. What the masks say of words is `positions` (crate pattern).
   pub held : (d : Declarations) (r : Regex) → Form s d r → let b = reading s .book in
       (b .variables ≡ length (d .variables)) × (b .symbols ≡ length (d .symbols))
       × (b .table ≡ pad 16 (record { kind = 0; count = 0; parameters = replicate 4 (record { tag = 0; number = 0 }) }) (map lined (d .symbols)))

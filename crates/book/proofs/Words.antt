@@ -4,7 +4,7 @@ use mathlib.Core.Path.{_≡_, refl}
 use mathlib.Core.List.{List, map}
 use Prim.Native.Nat.{ℕ}
 use lib.ListN.{take}
-use Rattle.meaning.specs.Events.{ignored, names}
+use Rattle.meaning.specs.Events.{ignored, names, fixed}
 use Rattle.table.specs.declared.Parameter.{Parameter}
 use Rattle.table.specs.Tables.{nameOf, viewParameter, viewSymbol}
 use Rattle.book.specs.Answers.{numberOf, placeOf}
@@ -14,9 +14,11 @@ use Rattle.book.specs.declared.Book.{Book}
 use Rattle.book.specs.declared.Reading.{Reading}
 use Rattle.book.specs.Books.{viewBook}
 
--- "each a declared variable or `_`": tag 1 and the variable's number, tag 0
-pub parameter-read : (n : ℕ) → (viewParameter (record { tag = 0; number = n }) ≡ ignored) × (viewParameter (record { tag = 1; number = n }) ≡ names n)
-parameter-read n = (refl, refl)
+-- "each a declared variable or `_`", or "`=` and a number": tag 1 and the variable's number, tag 0, tag 2 and the number
+pub parameter-read : (n : ℕ)
+    → (viewParameter (record { tag = 0; number = n }) ≡ ignored) × (viewParameter (record { tag = 1; number = n }) ≡ names n)
+    × (viewParameter (record { tag = 2; number = n }) ≡ fixed n)
+parameter-read n = (refl, refl, refl)
 
 -- a declaring place as it is handed back, and as the book has it
 pub name-read : (p n : ℕ) → nameOf (record { start = p; size = n }) ≡ record { start = p; size = n }

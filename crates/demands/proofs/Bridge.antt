@@ -53,9 +53,10 @@ pub record Read (b : Book) (tm : Tracematch) : Type 0 where
   pub sound : bookSound b ≡ true
 
 -- the counts and tags of the struct are in range
-parameter-tag : (p : Events.Parameter) → leb (parameterOf p .tag) 1 ≡ true
+parameter-tag : (p : Events.Parameter) → leb (parameterOf p .tag) 2 ≡ true
 parameter-tag Events.Parameter.ignored = refl
 parameter-tag (Events.Parameter.names v) = refl
+parameter-tag (Events.Parameter.fixed n) = refl
 
 symbol-counts : (n : ℕ) (y : Events.Symbol) → soundSymbol n y ≡ true → symbolCounts (symbolOf y) ≡ true
 unfolding symbolCounts symbolOf soundSymbol

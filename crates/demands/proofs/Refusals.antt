@@ -101,12 +101,13 @@ other = 9 ∷ replicate 19 0
 -- variable, for a seventh that is counted, for a row that would leave a variable free; 9 before 10, 10 before 11, 11 before 12
 abbrev NineFirst : Type 0
 NineFirst =
-    map (λ b. number b (idle 0) other) (named (at 4095 1) (at 0 12) ∷ named (at 4096 1) (at 0 12) ∷ named (at 4095 1) (at 4096 1) ∷ tagged 1 ∷ tagged 2 ∷ [])
+    map (λ b. number b (idle 0) other)
+    (named (at 4095 1) (at 0 12) ∷ named (at 4096 1) (at 0 12) ∷ named (at 4095 1) (at 4096 1) ∷ tagged 1 ∷ tagged 2 ∷ tagged 3 ∷ [])
     ++ (map (λ s. number one s other) (holding (slot 0) ∷ holding (slot 1) ∷ holding (loose 6) ∷ holding (loose 7) ∷ [])
     ++ (number unbound (idle 0) (1 ∷ replicate 19 0) ∷ number unbound (idle 1000000) (1 ∷ replicate 19 0)
     ∷ number unbound (idle 0) (1 ∷ 0 ∷ 1 ∷ replicate 17 0) ∷ number one (idle 1000001) [] ∷ number one (idle 1000000) []
     ∷ number two (stateOf (record { number = 1000000; held = heldAt 1 (bound 1 ∷ free (1 ∷ 2 ∷ 3 ∷ 4 ∷ 5 ∷ 6 ∷ []) ∷ []) ∷ [] })) (load 1 7) ∷ []))
-    ≡ (13 ∷ 9 ∷ 9 ∷ 13 ∷ 9 ∷ []) ++ ((13 ∷ 9 ∷ 13 ∷ 9 ∷ []) ++ (9 ∷ 9 ∷ 10 ∷ 9 ∷ 10 ∷ 11 ∷ []))
+    ≡ (13 ∷ 9 ∷ 9 ∷ 13 ∷ 13 ∷ 9 ∷ []) ++ ((13 ∷ 9 ∷ 13 ∷ 9 ∷ []) ++ (9 ∷ 9 ∷ 10 ∷ 9 ∷ 10 ∷ 11 ∷ []))
 
 -- What no count reaches is not judged: names, symbols and positions beyond the book's, a symbol's parameters beyond its own, places of the pool that
 -- are not taken, variables beyond the book's, exclusions that are not counted, the value of a free variable. A count beyond its array is 9: 17
@@ -180,12 +181,12 @@ longNamed = struct 1 1 (at 0 13 ∷ at 0 4096 ∷ replicate 18 (at 0 0)) (symbol
 abbrev StructBooks : Type 0
 StructBooks =
     map (λ b. number b (idle 0) other)
-    (declaring 1 1 1 1 0 ∷ longNamed ∷ declaring 4 16 255 1 3 ∷ patterned 2 (0 ∷ 0 ∷ []) 0 0 (0 ∷ 0 ∷ []) false
-    ∷ declaring 5 1 1 1 0 ∷ declaring 1 0 1 1 0 ∷ declaring 1 1 0 1 0 ∷ declaring 1 1 256 1 0 ∷ declaring 1 1 1 1 1 ∷ declaring 1 1 1 2 0
+    (declaring 1 1 1 1 0 ∷ declaring 1 1 1 2 4294967295 ∷ longNamed ∷ declaring 4 16 255 1 3 ∷ patterned 2 (0 ∷ 0 ∷ []) 0 0 (0 ∷ 0 ∷ []) false
+    ∷ declaring 5 1 1 1 0 ∷ declaring 1 0 1 1 0 ∷ declaring 1 1 0 1 0 ∷ declaring 1 1 256 1 0 ∷ declaring 1 1 1 1 1 ∷ declaring 1 1 1 3 0
     ∷ patterned 0 (0 ∷ 0 ∷ []) 0 0 (0 ∷ 0 ∷ []) false ∷ patterned 2 (0 ∷ 1 ∷ []) 2 4 (4 ∷ 0 ∷ []) false ∷ patterned 2 (0 ∷ 0 ∷ []) 3 4 (4 ∷ 0 ∷ []) false
     ∷ patterned 2 (0 ∷ 0 ∷ []) 10 4 (4 ∷ 0 ∷ []) false ∷ patterned 2 (0 ∷ 0 ∷ []) 2 5 (4 ∷ 0 ∷ []) false ∷ patterned 2 (0 ∷ 0 ∷ []) 2 12 (4 ∷ 0 ∷ []) false
     ∷ patterned 2 (0 ∷ 0 ∷ []) 2 4 (5 ∷ 0 ∷ []) false ∷ patterned 2 (0 ∷ 0 ∷ []) 2 4 (4 ∷ 8 ∷ []) false ∷ patterned 2 (0 ∷ 0 ∷ []) 2 4 (4 ∷ 0 ∷ []) true ∷ [])
-    ≡ replicate 4 13 ++ replicate 15 9
+    ≡ replicate 5 13 ++ replicate 15 9
 
 -- the same of a state: what is held, one disjunct after the other, of the book `one`
 abbrev slotted : Bool → (value count : ℕ) → List ℕ → Slot
@@ -242,13 +243,13 @@ having-two xs =
 
 abbrev EachJudged : Type 0
 EachJudged =
-    map (λ b. number b (idle 0) other) (tags (0 ∷ 1 ∷ []) ∷ tags (2 ∷ 1 ∷ []) ∷ tags (1 ∷ 2 ∷ []) ∷ [])
+    map (λ b. number b (idle 0) other) (tags (0 ∷ 1 ∷ []) ∷ tags (2 ∷ 1 ∷ []) ∷ tags (3 ∷ 1 ∷ []) ∷ tags (1 ∷ 3 ∷ []) ∷ [])
     ++ map (λ s. number two s other)
     (having-two ((value 5 ∷ value 6 ∷ []) ∷ (value 5 ∷ value 7 ∷ []) ∷ [])
     ∷ having-two ((value 5 ∷ slotted true 6 1 (replicate 6 0) ∷ []) ∷ []) ∷ having-two ((slotted true 5 1 (replicate 6 0) ∷ value 6 ∷ []) ∷ [])
     ∷ having-two ((value 5 ∷ value 6 ∷ []) ∷ (value 5 ∷ slotted true 7 1 (replicate 6 0) ∷ []) ∷ [])
     ∷ having-two ((value 5 ∷ slotted false 0 7 (1 ∷ 2 ∷ 3 ∷ 4 ∷ 5 ∷ 6 ∷ []) ∷ []) ∷ []) ∷ [])
-    ≡ (13 ∷ 9 ∷ 9 ∷ []) ++ (13 ∷ 9 ∷ 9 ∷ 9 ∷ 9 ∷ [])
+    ≡ (13 ∷ 13 ∷ 9 ∷ 9 ∷ []) ++ (13 ∷ 9 ∷ 9 ∷ 9 ∷ 9 ∷ [])
 
 -- "Held disjuncts stand by position, …": what is held stands in the first places of the pool, in its order; every number of the struct
 pub stored : stateOf (record { number = 3; held = heldAt 1 (free (7 ∷ 8 ∷ []) ∷ bound 6 ∷ []) ∷ heldAt 2 (bound 5 ∷ free [] ∷ []) ∷ [] })

@@ -27,6 +27,7 @@ use Rattle.table.specs.declared.Parameter.{Parameter}
 use Rattle.table.specs.declared.Symbol.{Symbol}
 use Rattle.table.specs.declared.Name.{Name}
 use Rattle.table.specs.Tables.{viewParameter}
+use Rattle.table.proofs.Codes.{view-either}
 use Rattle.slot.specs.declared.Slot.{Slot}
 use Rattle.slot.specs.Slots.{viewSlot}
 use Rattle.disjunct.specs.declared.Disjunct.{Disjunct}
@@ -44,33 +45,29 @@ every : {A : Type 0} (f : A → Bool) (P : A → Type 0) → ((x : A) → (f x �
     → (all f l ≡ true) ↔ ((x : A) → List·Memᴰ x l → P x)
 every f P e l = (λ h x m. e x .0 (all-at f h m), λ g. all-of f l (λ x m. e x .1 (g x m)))
 
--- "KIND is 1 to 255 … ARGS are 0 to 4 words, each a declared variable or `_`"
-parameter-words : (v : ℕ) (p : Parameter)
-    → ((leb (p .tag) 1 && soundParameter v (viewParameter p)) ≡ true) ↔ ((p .tag ≡ 0) ⊎ ((p .tag ≡ 1) × (p .number < v)))
-parameter-words v p = go (eqb (p .tag) 1) refl
+-- "KIND is 1 to 255 … ARGS are 0 to 4 words, each a declared variable or `_`", or "`=` and a number 0 to 4294967295"
+abbrev Placed : ℕ → Parameter → Type 0
+Placed v p = (p .tag ≡ 0) ⊎ (((p .tag ≡ 1) × (p .number < v)) ⊎ ((p .tag ≡ 2) × (p .number ≤ 4294967295)))
+
+tag-zero : (n : ℕ) → n ≤ 2 → (n ≡ 1 → ⊥) → (n ≡ 2 → ⊥) → n ≡ 0
+tag-zero zero h a b = refl
+tag-zero (suc zero) h a b = absurd (a refl)
+tag-zero (suc (suc zero)) h a b = absurd (b refl)
+tag-zero (suc (suc (suc n))) h a b = absurd (omega (arith, h))
+
+parameter-words : (v : ℕ) (p : Parameter) → ((leb (p .tag) 2 && soundParameter v (viewParameter p)) ≡ true) ↔ Placed v p
+parameter-words v p = (forth, back)
   where
-    go : (t : Bool) → eqb (p .tag) 1 ≡ t
-        → ((leb (p .tag) 1 && soundParameter v (viewParameter p)) ≡ true) ↔ ((p .tag ≡ 0) ⊎ ((p .tag ≡ 1) × (p .number < v)))
-    go true e =
-        let one = eqb-true (p .tag) 1 e in
-        let same = Parts.parameter-named v p one in (
-          λ h. inr (one, ltb-true (p .number) v (sym same ∙ h)),
-          λ h. same ∙ lt-ltb (p .number) v (numbered one h),
-        )
-      where
-        numbered : p .tag ≡ 1 → (p .tag ≡ 0) ⊎ ((p .tag ≡ 1) × (p .number < v)) → p .number < v
-        numbered one (inl z) = absurd (omega (arith, one, z))
-        numbered one (inr (_, h)) = h
-    go false e =
-        let other : p .tag ≡ 1 → ⊥ = λ o. false≢true (sym e ∙ eq-eqb (p .tag) 1 o) in
-        let same = Parts.parameter-other v p other in (
-          λ h. inl (eqb-true (p .tag) 0 (sym same ∙ h)),
-          λ h. same ∙ ignoredOne other h,
-        )
-      where
-        ignoredOne : (p .tag ≡ 1 → ⊥) → (p .tag ≡ 0) ⊎ ((p .tag ≡ 1) × (p .number < v)) → eqb (p .tag) 0 ≡ true
-        ignoredOne other (inl z) = eq-eqb (p .tag) 0 z
-        ignoredOne other (inr (o, _)) = absurd (other o)
+    forth : (leb (p .tag) 2 && soundParameter v (viewParameter p)) ≡ true → Placed v p
+    forth h =
+        let (a, s) = and-true-split (leb (p .tag) 2) (soundParameter v (viewParameter p)) h in
+        view-either (λ x. soundParameter v x ≡ true → Placed v p) p (λ o q. inr (inl (o, ltb-true (p .number) v q)))
+        (λ o q. inr (inr (o, leb-true (p .number) 4294967295 q))) (λ m n _. inl (tag-zero (p .tag) (leb-true (p .tag) 2 a) m n)) s
+
+    back : Placed v p → (leb (p .tag) 2 && soundParameter v (viewParameter p)) ≡ true
+    back (inl z) = rw z
+    back (inr (inl (o, l))) = rw (o, lt-ltb (p .number) v l)
+    back (inr (inr (o, l))) = rw (o, le-leb (p .number) 4294967295 l)
 
 -- a number that is over its limit makes the test false
 within : (n k : ℕ) {z : Bool} → (k < n → z ≡ false) → z ≡ true → n ≤ k
@@ -87,10 +84,9 @@ needed false f h = absurd (false≢true (sym (f refl) ∙ h))
 
 symbol-words : (v : ℕ) (y : Symbol) → (symbolSound v y ≡ true)
     ↔ ((1 ≤ y .kind) × (y .kind ≤ 255) × (y .count ≤ 4)
-    × ((p : Parameter) → List·Memᴰ p (take (y .count) (y .parameters)) → (p .tag ≡ 0) ⊎ ((p .tag ≡ 1) × (p .number < v))))
+    × ((p : Parameter) → List·Memᴰ p (take (y .count) (y .parameters)) → Placed v p))
 symbol-words v y =
-    let ps = every (λ (p : Parameter). leb (p .tag) 1 && soundParameter v (viewParameter p))
-    (λ p. (p .tag ≡ 0) ⊎ ((p .tag ≡ 1) × (p .number < v))) (parameter-words v) (take (y .count) (y .parameters)) in (
+    let ps = every (λ (p : Parameter). leb (p .tag) 2 && soundParameter v (viewParameter p)) (Placed v) (parameter-words v) (take (y .count) (y .parameters)) in (
       λ h. let few = within (y .count) 4 (Parts.symbol-many v y) h in
           let (k, a) = and-true-split (leb 1 (y .kind) && leb (y .kind) 255) _ (sym (Parts.symbol-parts v y few) ∙ h) in
           let (i, j) = and-true-split (leb 1 (y .kind)) (leb (y .kind) 255) k in
@@ -111,7 +107,8 @@ pub sound-book-rules : (b : Book) → BookSized b
     (bookSound b ≡ true)
     ↔ ((v ≤ 4) × (1 ≤ b .symbols) × (b .symbols ≤ 16)
     × ((y : Symbol) → List·Memᴰ y (take (b .symbols) (b .table)) → (1 ≤ y .kind) × (y .kind ≤ 255) × (y .count ≤ 4)
-    × ((p : Parameter) → List·Memᴰ p (take (y .count) (y .parameters)) → (p .tag ≡ 0) ⊎ ((p .tag ≡ 1) × (p .number < v))))
+    × ((p : Parameter) → List·Memᴰ p (take (y .count) (y .parameters))
+    → (p .tag ≡ 0) ⊎ (((p .tag ≡ 1) × (p .number < v)) ⊎ ((p .tag ≡ 2) × (p .number ≤ 4294967295)))))
     × ((x : Name) → List·Memᴰ x (take (v + b .symbols) (b .names)) → x .start + x .size ≤ 4096)
     × (1 ≤ n) × (n ≤ 31) × ((a : ℕ) → List·Memᴰ a (take n (b .occurrences)) → a < b .symbols)
     × ((b .begins < 2 ^ suc n) × (bit 0 (b .begins) ≡ false)) × ((b .ends < 2 ^ suc n) × (bit 0 (b .ends) ≡ false))

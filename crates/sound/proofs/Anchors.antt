@@ -25,11 +25,11 @@ tagged t = record { tag = t; number = 0 }
 abbrev symbol : ℕ → List Parameter → Symbol
 symbol n ps = record { kind = 1; count = n; parameters = ps }
 
--- tags 0 and 1, a tag of 2 that no count reaches; one that a count reaches, and a count of five
+-- tags 0 to 2, a tag of 3 that no count reaches; one that a count reaches, and a count of five
 pub symbols : map symbolCounts
-    (symbol 2 (tagged 0 ∷ tagged 1 ∷ tagged 2 ∷ tagged 2 ∷ [])
-    ∷ symbol 4 (replicate 4 (tagged 1))
-    ∷ symbol 3 (tagged 0 ∷ tagged 1 ∷ tagged 2 ∷ tagged 2 ∷ [])
+    (symbol 3 (tagged 0 ∷ tagged 1 ∷ tagged 2 ∷ tagged 3 ∷ [])
+    ∷ symbol 4 (replicate 4 (tagged 2))
+    ∷ symbol 4 (tagged 0 ∷ tagged 1 ∷ tagged 2 ∷ tagged 3 ∷ [])
     ∷ symbol 5 (replicate 4 (tagged 1))
     ∷ [])
     ≡ true ∷ true ∷ false ∷ false ∷ []

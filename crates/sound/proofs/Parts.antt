@@ -25,6 +25,7 @@ use Rattle.meaning.specs.Sound.{soundEntry, soundDisjunct, soundPiece, soundHel
 use Rattle.table.specs.declared.Parameter.{Parameter}
 use Rattle.table.specs.declared.Symbol.{Symbol}
 use Rattle.table.specs.Tables.{viewParameter, viewSymbol}
+use Rattle.table.proofs.Codes.{view-either}
 use Rattle.slot.specs.declared.Slot.{Slot}
 use Rattle.slot.specs.Slots.{viewSlot}
 use Rattle.disjunct.specs.declared.Disjunct.{Disjunct}
@@ -62,16 +63,15 @@ slot-free s w h k =
     let few : length (take (s .count) (s .excluded)) ≤ 6 = omega arith in
     rw (h, le-leb (s .count) 6 k, le-leb (length (take (s .count) (s .excluded))) 6 few, all-take word32 (s .count) (s .excluded) (w .excluded))
 
--- an argument place: ignored (0), or a variable (1)
-pub parameter-named : (v : ℕ) (p : Parameter) → p .tag ≡ 1 → (leb (p .tag) 1 && soundParameter v (viewParameter p)) ≡ ltb (p .number) v
+-- an argument place: a variable (1), or ignored (0) or a fixed number (2), which is any word
+pub parameter-named : (v : ℕ) (p : Parameter) → p .tag ≡ 1 → (leb (p .tag) 2 && soundParameter v (viewParameter p)) ≡ ltb (p .number) v
 parameter-named v p h = rw h
 
-leb-one : (n : ℕ) → (n ≡ 1 → ⊥) → leb n 1 ≡ eqb n 0
-leb-one zero h = refl
-leb-one (suc n) h = lt-leb (suc n) 1 (omega arith) ∙ sym (ne-eqb (suc n) 0 (λ e. omega arith))
-
-pub parameter-other : (v : ℕ) (p : Parameter) → (p .tag ≡ 1 → ⊥) → (leb (p .tag) 1 && soundParameter v (viewParameter p)) ≡ eqb (p .tag) 0
-parameter-other v p h = rw (ne-eqb (p .tag) 1 h) (and-true (leb (p .tag) 1) ∙ leb-one (p .tag) h)
+pub parameter-other : (v : ℕ) (p : Parameter) → p .number < 2 ^ 32 → (p .tag ≡ 1 → ⊥) → (leb (p .tag) 2 && soundParameter v (viewParameter p)) ≡ leb (p .tag) 2
+parameter-other v p w h =
+    let sound : soundParameter v (viewParameter p) ≡ true =
+    view-either (λ x. soundParameter v x ≡ true) p (λ k. absurd (h k)) (λ _. le-leb (p .number) 4294967295 (omega (arith, w))) (λ _ _. refl) in
+    ap (leb (p .tag) 2 &&_) sound ∙ and-true (leb (p .tag) 2)
 
 -- a symbol: its kind, and its places one by one
 pub symbol-many : (v : ℕ) (y : Symbol) → 4 < y .count → symbolSound v y ≡ false
@@ -80,7 +80,7 @@ symbol-many v y h = rw (lt-leb (y .count) 4 h)
 
 pub symbol-parts : (v : ℕ) (y : Symbol) → y .count ≤ 4
     → symbolSound v y
-    ≡ (leb 1 (y .kind) && leb (y .kind) 255 && all (λ p. leb (p .tag) 1 && soundParameter v (viewParameter p)) (take (y .count) (y .parameters)))
+    ≡ (leb 1 (y .kind) && leb (y .kind) 255 && all (λ p. leb (p .tag) 2 && soundParameter v (viewParameter p)) (take (y .count) (y .parameters)))
 unfolding symbolSound symbolCounts soundSymbol viewSymbol
 symbol-parts v y h =
     let ps = take (y .count) (y .parameters) in
@@ -88,7 +88,7 @@ symbol-parts v y h =
     let n = length-map ps viewParameter in
     let m = length-take (y .count) (y .parameters) in
     let few : length (map viewParameter ps) ≤ 4 = omega arith in
-    let tag : Parameter → Bool = λ p. leb (p .tag) 1 in
+    let tag : Parameter → Bool = λ p. leb (p .tag) 2 in
     let named : Parameter → Bool = λ p. soundParameter v (viewParameter p) in
     rw (le-leb (y .count) 4 h, le-leb (length (map viewParameter ps)) 4 few, and-true k, all-map (soundParameter v) viewParameter ps, all-and tag named ps)
     (and-front (all tag ps) k (all named ps))

@@ -41,6 +41,7 @@ getD-in f (x ∷ l) (suc i) d e h = getD-in f l i d e (omega arith)
 wider : (n : ℕ) → n ≤ 32 → (p : Events.Parameter) → soundParameter n p ≡ true → soundParameter 32 p ≡ true
 wider n h Events.Parameter.ignored e = refl
 wider n h (Events.Parameter.names v) e = lt-ltb v 32 (omega (arith, ltb-true v n e))
+wider n h (Events.Parameter.fixed m) e = e
 
 -- a ready table and its plain view
 module _ (s : Bytes) (t : Table) (ready : Ready s t) where

@@ -1,5 +1,6 @@
--- `sound::sound_place` meets its contract: by the tag.
+-- `sound::sound_parameter` meets its contract: by the tag. A number of any size is a word.
 use mathlib.Core.Path.{sym}
+use Prim.Native.Nat.{_^_, _<_}
 use borrow.Author.Needs.{needs}
 use Rattle.sound.proofs.Parts.{parameter-named, parameter-other}
 use Rattle.sound.proofs.sound_parameter.Statement.{statement}
@@ -12,7 +13,10 @@ returns : tie.Need-returns
 returns c = let a = c .before .before .before .args in sym (parameter-named (a .variables) (a .p) (c .if1 .taken))
 
 returns-2 : tie.Need-returns-2
-returns-2 c = let a = c .before .before .before .before .args in sym (parameter-other (a .variables) (a .p) (c .before .if1 .left))
+returns-2 c =
+    let s = c .before .before .before in
+    let w : s .args .p .number < 2 ^ 32 = search needs in
+    sym (parameter-other (s .args .variables) (s .args .p) w (c .if1 .left))
 
 pub sound-parameter-spec : {M : Type 1} → statement M
 sound-parameter-spec = tie.close (tie.spec cast-v returns returns-2)

@@ -1,4 +1,4 @@
--- `sound::sound_places` meets its contract: the places ahead tell what all tell.
+-- `sound::sound_parameters` meets its contract: the places ahead tell what all tell.
 use mathlib.Core.Path.{_≡_, refl}
 use mathlib.Core.Bool.{Bool, _&&_}
 use Prim.Native.Nat.{_-_, _≤_, ℕ}
@@ -15,7 +15,7 @@ use Rattle.sound.proofs.sound_parameters.Tie as tie
 
 -- one place
 abbrev one : ℕ → Parameter → Bool
-one variables p = leb (p .tag) 1 && soundParameter variables (viewParameter p)
+one variables p = leb (p .tag) 2 && soundParameter variables (viewParameter p)
 
 abbrev Inv-loop : tie.InvT-loop
 Inv-loop n variables parameters i₀ i = (i ≤ n) × (length parameters ≡ 4) × Told (one variables) parameters n i
