@@ -158,17 +158,17 @@ kind-found (b ∷ w) h = by _ (leb (value 0 (b ∷ w)) 255) refl refl h
     by true false e f g = absurd (g refl)
     by false u e f g = absurd (g refl)
 
--- the test for extra leading zeros
-plain-tested : (b : ℕ) (w : Bytes) → ((eqb (length w) 0 || not (eqb b 48)) ≡ true) ↔ (b ≡ 48 → length w ≡ 0)
-plain-tested b w = (
-  λ h e. ⊎-elim (eqb-true (length w) 0) (λ z. absurd (eqb-false b 48 (not-true (eqb b 48) z) e)) (or-true-split (eqb (length w) 0) _ h),
-  back (eqb (length w) 0) (eqb b 48) refl refl,
+-- the test for extra leading zeros: a first digit b with n more
+pub plain-tested : (n b : ℕ) → ((eqb n 0 || not (eqb b 48)) ≡ true) ↔ (b ≡ 48 → n ≡ 0)
+plain-tested n b = (
+  λ h e. ⊎-elim (eqb-true n 0) (λ z. absurd (eqb-false b 48 (not-true (eqb b 48) z) e)) (or-true-split (eqb n 0) _ h),
+  back (eqb n 0) (eqb b 48) refl refl,
 )
   where
-    back : (t u : Bool) → eqb (length w) 0 ≡ t → eqb b 48 ≡ u → (b ≡ 48 → length w ≡ 0) → (t || not u) ≡ true
+    back : (t u : Bool) → eqb n 0 ≡ t → eqb b 48 ≡ u → (b ≡ 48 → n ≡ 0) → (t || not u) ≡ true
     back true u e i f = refl
     back false false e i f = refl
-    back false true e i f = absurd (eqb-false (length w) 0 e (f (eqb-true b 48 i)))
+    back false true e i f = absurd (eqb-false n 0 e (f (eqb-true b 48 i)))
 
 -- a fixed number's decimal is read back
 pub number-read : (n : ℕ) → n ≤ 4294967295 → (isNumber (decimal n) ≡ true) × (value 0 (decimal n) ≡ n) × (all isDigit (decimal n) ≡ true)
@@ -176,19 +176,26 @@ number-read n h =
     let r = decimal-numeral 9 n (omega arith) (omega arith) in
     let b = r .first in
     let w = r .more in
-    let z = plain-tested b w .1 (λ e. r .plain e .1) in
+    let z = plain-tested (length w) b .1 (λ e. r .plain e .1) in
     rw (r .word) (rw (le-leb (suc (length w)) 10 (r .few), r .digits, z, r .means, le-leb n 4294967295 h), r .means, r .digits)
 
--- where a fixed number is read, its decimal stands
-pub number-found : (w : Bytes) → isNumber w ≡ true → (w ≡ decimal (value 0 w)) × (value 0 w ≤ 4294967295)
-number-found [] h = absurd (true≢false (sym h))
-number-found (b ∷ w) h =
+-- what the test of a fixed number finds
+number-tests : (b : ℕ) (w : Bytes) → isNumber (b ∷ w) ≡ true
+    → (length w < 10) × (all isDigit (b ∷ w) ≡ true) × (b ≡ 48 → length w ≡ 0) × (value 0 (b ∷ w) ≤ 4294967295)
+number-tests b w h =
     let few = leb (length (b ∷ w)) 10 in
     let digits = all isDigit (b ∷ w) in
     let plain = eqb (length w) 0 || not (eqb b 48) in
     let (t, m) = and-true-split (few && digits && plain) (leb (value 0 (b ∷ w)) 4294967295) h in
     let (u, z) = and-true-split (few && digits) plain t in
-    let (l, d) = and-true-split few digits u in (
-      decimal-of b w (leb-true (length (b ∷ w)) 10 l) d (plain-tested b w .0 z),
-      leb-true (value 0 (b ∷ w)) 4294967295 m,
-    )
+    let (l, d) = and-true-split few digits u in
+    (leb-true (length (b ∷ w)) 10 l, d, plain-tested (length w) b .0 z, leb-true (value 0 (b ∷ w)) 4294967295 m)
+
+pub number-digits : (w : Bytes) → isNumber w ≡ true → (1 ≤ length w) × (length w ≤ 10) × (all isDigit w ≡ true)
+number-digits [] h = absurd (true≢false (sym h))
+number-digits (b ∷ w) h = let (l, d, z, m) = number-tests b w h in (omega arith, l, d)
+
+-- where a fixed number is read, its decimal stands
+pub number-found : (w : Bytes) → isNumber w ≡ true → (w ≡ decimal (value 0 w)) × (value 0 w ≤ 4294967295)
+number-found [] h = absurd (true≢false (sym h))
+number-found (b ∷ w) h = let (l, d, z, m) = number-tests b w h in (decimal-of b w l d z, m)
