@@ -20,6 +20,7 @@ use Rattle.table.specs.declared.Parameter.{Parameter}
 use Rattle.table.specs.declared.Symbol.{Symbol}
 use Rattle.table.specs.Tables.{viewParameter, viewSymbol}
 use Rattle.table.proofs.Spans.{ahead, ahead-none, ahead-cons}
+use Rattle.table.proofs.Codes.{view-either, view-named}
 use Rattle.record.specs.declared.Event.{Event}
 use Rattle.record.specs.Records.{viewEvent}
 use Rattle.demand.specs.declared.Demand.{Demand}
@@ -42,6 +43,7 @@ demand-within : (k : ℕ) (p : Events.Parameter) (x : ℕ) (r : List Events.Dema
     → all (λ d. ltb (d .variable) k) (Events.demandOf p x ++ r) ≡ true
 demand-within k Events.Parameter.ignored x r s h = h
 demand-within k (Events.Parameter.names v) x r s h = ap₂ _&&_ s h
+demand-within k (Events.Parameter.fixed n) x r s h = h
 
 demands-within : (k : ℕ) (ps : List Events.Parameter) (xs : List ℕ) → all (soundParameter k) ps ≡ true
     → all (λ d. ltb (d .variable) k) (Events.demandsOf ps xs) ≡ true
@@ -88,16 +90,49 @@ module _ (c : Constraint) (l : length (c .demands) ≡ 4) (few : c .count ≤ 4)
   pub consistent-none : (i : ℕ) → c .count ≤ i → Events.consistent (drop i (demandsIn c)) ≡ true
   consistent-none i h = ap Events.consistent (demands-end c i h)
 
--- what the tag of a place says
-named : (p : Parameter) → p .tag ≡ 1 → viewParameter p ≡ Events.Parameter.names (p .number)
-named p h = ap (λ b. cond b (Events.Parameter.names (p .number)) Events.Parameter.ignored) (eq-eqb (p .tag) 1 h)
+-- what the tag of a place says of its demand, and of its argument
+unnamed : (p : Parameter) (x : ℕ) → (p .tag ≡ 1 → ⊥) → Events.demandOf (viewParameter p) x ≡ []
+unnamed p x h = view-either (λ q. Events.demandOf q x ≡ []) p (λ k. absurd (h k)) (λ _. refl) (λ _ _. refl)
 
-unnamed : (p : Parameter) → (p .tag ≡ 1 → ⊥) → viewParameter p ≡ Events.Parameter.ignored
-unnamed p h = ap (λ b. cond b (Events.Parameter.names (p .number)) Events.Parameter.ignored) (ne-eqb (p .tag) 1 h)
+pub differs : (p : Parameter) (x : ℕ) → p .tag ≡ 2 → not (eqb (p .number) x) ≡ true → Events.fixedAt (viewParameter p) x ≡ false
+differs p x h n =
+    view-either (λ q. Events.fixedAt q x ≡ false) p (λ k. absurd (omega (arith, h, k))) (λ _. not-true _ n) (λ _ k. absurd (k h))
+
+pub agrees-at : (p : Parameter) (x : ℕ) → not (eqb (p .number) x) ≡ false → Events.fixedAt (viewParameter p) x ≡ true
+agrees-at p x n = view-either (λ q. Events.fixedAt q x ≡ true) p (λ _. refl) (λ _. not-false _ n) (λ _ _. refl)
+
+pub unfixed : (p : Parameter) (x : ℕ) → (p .tag ≡ 2 → ⊥) → Events.fixedAt (viewParameter p) x ≡ true
+unfixed p x h = view-either (λ q. Events.fixedAt q x ≡ true) p (λ _. refl) (λ k. absurd (h k)) (λ _ _. refl)
 
 -- the place number i of a symbol
 abbrev pub parameterAt : Symbol → ℕ → Parameter
 parameterAt y i = getD (y .parameters) i (record { tag = 0; number = 0 })
+
+-- the counted places from number i on with their arguments: the first of them, and the others
+pub places-next : {A : Type 0} (f : List Events.Parameter → List ℕ → A) (y : Symbol) (e : Event) (i : ℕ) → i < y .count → y .count ≤ 4
+    → length (y .parameters) ≡ 4 → length (e .args) ≡ 4
+    → f (ahead viewParameter (y .parameters) i (y .count)) (slice i (y .count) (e .args))
+    ≡ f (viewParameter (parameterAt y i) ∷ ahead viewParameter (y .parameters) (i + 1) (y .count))
+    (getD (e .args) i 0 ∷ slice (i + 1) (y .count) (e .args))
+places-next f y e i h few k j =
+    let a = ahead-cons viewParameter (y .parameters) i (y .count) (record { tag = 0; number = 0 }) h (omega arith) in
+    let b = slice-cons i (y .count) (e .args) 0 h (omega arith) in
+    rw (a, b, add-one i)
+
+-- whether the fixed ones among the counted places from number i on have their arguments
+abbrev pub fixedFrom : Symbol → Event → ℕ → Bool
+fixedFrom y e i = Events.fixedAll (ahead viewParameter (y .parameters) i (y .count)) (slice i (y .count) (e .args))
+
+pub fixed-next : (y : Symbol) (e : Event) (i : ℕ) {b : Bool} → i < y .count → y .count ≤ 4 → length (y .parameters) ≡ 4 → length (e .args) ≡ 4
+    → Events.fixedAt (viewParameter (parameterAt y i)) (getD (e .args) i 0) ≡ b → fixedFrom y e i ≡ (b && fixedFrom y e (i + 1))
+fixed-next y e i h few k j q = places-next Events.fixedAll y e i h few k j ∙ ap (λ (b : Bool). b && fixedFrom y e (i + 1)) q
+
+pub fixed-first : (y : Symbol) (e : Event) → e .count ≡ y .count → fixedFrom y e 0 ≡ Events.fixedAll (viewSymbol y .parameters) (viewEvent e .args)
+unfolding viewSymbol viewEvent
+fixed-first y e h = rw (sub-zero, h)
+
+pub fixed-end : (y : Symbol) (e : Event) (i : ℕ) → y .count ≤ i → fixedFrom y e i ≡ true
+fixed-end y e i h = rw (ahead-none viewParameter (y .parameters) i (y .count) h)
 
 -- what the counted places from number i on demand
 abbrev pub restOf : Symbol → Event → ℕ → List Events.Demand
@@ -115,18 +150,16 @@ module _ (y : Symbol) (e : Event) (few : y .count ≤ 4) where
   gathered-none h k = record { few = omega arith; long = k; whole = rw (sub-zero, h) }
 
   module _ {m i : ℕ} {l : List Demand} (h : i < y .count) (k : length (y .parameters) ≡ 4) (j : length (e .args) ≡ 4) (g : Gathered y e m i l) where
-    rest-next : (p : Events.Parameter) → viewParameter (parameterAt y i) ≡ p → restOf y e i ≡ Events.demandOf p (getD (e .args) i 0) ++ restOf y e (i + 1)
-    rest-next p q =
-        let a = ahead-cons viewParameter (y .parameters) i (y .count) (record { tag = 0; number = 0 }) h (omega arith) in
-        let b = slice-cons i (y .count) (e .args) 0 h (omega arith) in
-        rw (a, b, q, add-one i)
+    rest-next : (ds : List Events.Demand) → Events.demandOf (viewParameter (parameterAt y i)) (getD (e .args) i 0) ≡ ds
+        → restOf y e i ≡ ds ++ restOf y e (i + 1)
+    rest-next ds q = places-next Events.demandsOf y e i h few k j ∙ ap (λ l. l ++ restOf y e (i + 1)) q
 
     pub gathered-skip : (parameterAt y i .tag ≡ 1 → ⊥) → Gathered y e m (i + 1) l
     gathered-skip n =
         record {
           few = omega arith;
           long = g .long;
-          whole = ap (λ r. map viewDemand (take m l) ++ r) (sym (rest-next _ (unnamed _ n))) ∙ g .whole;
+          whole = ap (λ r. map viewDemand (take m l) ++ r) (sym (rest-next [] (unnamed _ _ n))) ∙ g .whole;
         }
 
     pub gathered-more : parameterAt y i .tag ≡ 1
@@ -138,7 +171,7 @@ module _ (y : Symbol) (e : Event) (few : y .count ≤ 4) where
         record {
           few = omega arith;
           long = length-set l m d ∙ g .long;
-          whole = rw (a, append-assoc) (ap (λ r. map viewDemand (take m l) ++ r) (sym (rest-next _ (named _ n))) ∙ g .whole);
+          whole = rw (a, append-assoc) (ap (λ r. map viewDemand (take m l) ++ r) (sym (rest-next _ (ap (λ p. Events.demandOf p (getD (e .args) i 0)) (view-named _ n)))) ∙ g .whole);
         }
 
   -- when no place is left the demands are gathered, and they are ready where the places are sound
@@ -152,13 +185,12 @@ module _ (y : Symbol) (e : Event) (few : y .count ≤ 4) where
       sym (append-nil _) ∙ ap (λ r. map viewDemand (take m l) ++ r) (sym z) ∙ g .whole in
       (w, record { few = omega arith; within = rw w (demands-within 4 (viewSymbol y .parameters) (viewEvent e .args) s) })
 
--- the constraint, by the answers of both tests
-pub constraint-by : (s : Events.Symbol) (e : Events.Event) {a b : Bool} → Events.matches s e ≡ a
-    → Events.consistent (Events.demandsOf (s .parameters) (e .args)) ≡ b
-    → Events.constraintOf s e ≡ cond (a && b) (Events.Constraint.demands (Events.demandsOf (s .parameters) (e .args))) Events.Constraint.never
+-- the constraint, by the answers of the three tests
+pub constraint-by : (s : Events.Symbol) (e : Events.Event) {a b c : Bool} → Events.matches s e ≡ a → Events.fixedAll (s .parameters) (e .args) ≡ b
+    → Events.consistent (Events.demandsOf (s .parameters) (e .args)) ≡ c
+    → Events.constraintOf s e ≡ cond (a && b && c) (Events.Constraint.demands (Events.demandsOf (s .parameters) (e .args))) Events.Constraint.never
 unfolding Events.constraintOf
-constraint-by s e h k =
-    ap₂ (λ a b. cond (a && b) (Events.Constraint.demands (Events.demandsOf (s .parameters) (e .args))) Events.Constraint.never) h k
+constraint-by s e h j k = rw (h, j, k)
 
 -- the symbol number i of a table
 abbrev pub symbolAt : List Symbol → ℕ → Symbol

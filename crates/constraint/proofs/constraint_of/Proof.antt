@@ -1,4 +1,4 @@
--- `constraint::constraint_of` meets its contract: both tests, each a branch.
+-- `constraint::constraint_of` meets its contract: three tests, each a branch.
 use mathlib.Core.Path.{_≡_, refl, sym, ap, _∙_}
 use mathlib.Core.Bool.{true}
 use mathlib.Core.Logic.{⊎-elim}
@@ -28,10 +28,16 @@ same-count c h =
 matches-requires : tie.Need-matches-requires
 matches-requires c κs = search needs
 
+fixed-agree-requires : tie.Need-fixed-agree-requires
+fixed-agree-requires c κs =
+    let s = c .before .before in
+    (s .pre .0, same-count s (sym (c .before .matches .ensures) ∙ c .if1 .taken))
+
 demands-requires : tie.Need-demands-requires
 demands-requires c κs =
-    let s = c .before .before in
-    (s .pre .0, same-count s (sym (c .before .matches .ensures) ∙ c .if1 .taken), s .pre .2)
+    let m = c .before .before in
+    let s = m .before .before in
+    (s .pre .0, same-count s (sym (m .before .matches .ensures) ∙ m .if1 .taken), s .pre .2)
 
 consistent-requires : tie.Need-consistent-requires
 consistent-requires c κs = search needs
@@ -39,11 +45,13 @@ consistent-requires c κs = search needs
 returns : tie.Need-returns
 returns c =
     let d = c .before .before .demands in
-    let m = c .before .before .before in
+    let f = c .before .before .before in
+    let m = f .before .before in
     let a = m .before .before .args in
     let same = d .ensures .0 in
-    let e = ap Events.consistent (sym same) ∙ sym (c .before .consistent .ensures) ∙ c .if2 .taken in
-    let h = constraint-by (viewSymbol (a .y)) (viewEvent (a .e)) (sym (m .before .matches .ensures) ∙ m .if1 .taken) e in
+    let e = ap Events.consistent (sym same) ∙ sym (c .before .consistent .ensures) ∙ c .if3 .taken in
+    let g = sym (f .before .fixed-agree .ensures) ∙ f .if2 .taken in
+    let h = constraint-by (viewSymbol (a .y)) (viewEvent (a .e)) (sym (m .before .matches .ensures) ∙ m .if1 .taken) g e in
     (demands-view (d .result) (d .ensures .1) ∙ ap Events.Constraint.demands same ∙ sym h, d .ensures .2)
 
 never-requires : tie.Need-never-requires
@@ -58,8 +66,10 @@ returns-2 c =
     let e = viewEvent (a .e) in
     let h : Events.constraintOf y e ≡ Events.Constraint.never =
     ⊎-elim
-    (λ w. constraint-by y e (sym m ∙ w .0 .taken) (ap Events.consistent (sym (w .1 .ensures .0)) ∙ sym (w .2 .ensures) ∙ w .3 .left))
-    (λ w. constraint-by y e (sym m ∙ w .left) refl) (c .before .if1 .came) in
+    (λ w. constraint-by y e (sym m ∙ w .0 .taken) (sym (w .1 .ensures) ∙ w .2 .taken)
+    (ap Events.consistent (sym (w .3 .ensures .0)) ∙ sym (w .4 .ensures) ∙ w .5 .left))
+    (⊎-elim (λ w. constraint-by y e (sym m ∙ w .0 .taken) (sym (w .1 .ensures) ∙ w .2 .left) refl)
+    (λ w. constraint-by y e (sym m ∙ w .left) refl refl)) (c .before .if1 .came) in
     (n .0 ∙ sym h, n .1)
 
 pub constraint-of-spec : {M : Type 1} → statement M
@@ -67,6 +77,7 @@ constraint-of-spec =
     tie.close
     (tie.spec
     matches-requires
+    fixed-agree-requires
     demands-requires
     consistent-requires
     returns
