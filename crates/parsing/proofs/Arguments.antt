@@ -4,43 +4,62 @@ use mathlib.Core.Bool.{Bool, true, false, cond, _&&_, _||_, false≢true}
 use mathlib.Core.List.{List, [], _∷_, _++_, map, append-nil}
 use Prim.Native.Nat.{ℕ, zero, suc, _+_, _≤_}
 use native.Mathlib.Omega.{arith}
-use borrow.Author.Tests.{eq-eqb, ne-eqb, ltb-true}
-use lib.Dec.{eqb}
+use borrow.Author.Tests.{eqb-true, eq-eqb, ne-eqb, leb-true, le-leb, ltb-true}
+use lib.Dec.{eqb, leb}
 use lib.ListN.{length, getD, drop, length-append}
 use lib.Seq.{append-snoc}
 use Rattle.laws.specs.Lists.{all}
 use Rattle.laws.proofs.Lists.{and-true-split, all-at, mem-getD}
-use Rattle.meaning.specs.Events.{Parameter, ignored, names}
+use Rattle.meaning.specs.Events.{Parameter, ignored, names, fixed}
 use Rattle.meaning.specs.Book.{soundParameter}
-use Rattle.form.specs.Text.{Bytes, space, lf, isName, ignoredWord, Span, spaced, parameterWord}
+use Rattle.form.specs.Limits.{numberLimit}
+use Rattle.form.specs.Text.{Bytes, space, lf, isDigit, isName, ignoredWord, fixedSign, decimal, Span, spaced, parameterWord}
 use Rattle.form.specs.Form.{sameWord, distinct}
-use Rattle.form.specs.Scan.{go, wordEnd, nextWord}
+use Rattle.form.specs.Scan.{go, wordEnd, nextWord, value, isNumber, numberOf}
 use Rattle.form.specs.Lines.{bytesAt, Arguments, argumentFault, argumentOf, argumentsFrom}
 use Rattle.parsing.proofs.Scans.{same-word}
 use Rattle.parsing.proofs.Words.{Word, word-end, word-part, isWord, Next, word-next, next-behind, next-inside, byte-inside, gap-ended}
 use Rattle.parsing.proofs.Words.{Gap, ended, next, failed, gap}
-use Rattle.parsing.proofs.Names.{indexIn, known, index-of, index-known, getD-index, index-getD, known-getD, name-word, argument-tested}
+use Rattle.parsing.proofs.Names.{indexIn, known, index-of, index-known, getD-index, index-getD, known-getD, all-word, name-word}
+use Rattle.parsing.proofs.Names.{isSigned, unsigned, name-unsigned, signed-at, argument-tested}
+use Rattle.parsing.proofs.Numerals.{number-read, number-found}
 use Rattle.parsing.proofs.VarsLine.{Outcome, fine, faulty, outcome-on, spaced-stops, spaced-first}
 
 -- whether a word may stand among ARGS, and what it stands for
 abbrev pub isArgument : List Bytes → Bytes → Bool
-isArgument vs w = sameWord w ignoredWord || (isName w && known vs w)
+isArgument vs w = sameWord w ignoredWord || cond (isSigned w) (isNumber (unsigned w)) (isName w && known vs w)
 
 abbrev pub parameterOf : List Bytes → Bytes → Parameter
-parameterOf vs w = let v = names (indexIn vs w) in cond (sameWord w ignoredWord) ignored v
+parameterOf vs w =
+    let n = fixed (cond (isNumber (unsigned w)) (value 0 (unsigned w)) 0) in
+    let v = cond (isSigned w) n (names (indexIn vs w)) in
+    cond (sameWord w ignoredWord) ignored v
 
-argument-of : {s : Bytes} {p : ℕ} {w rest : Bytes} → Word s p w rest → (xs : List Span) → argumentOf s xs p (wordEnd s p) ≡ parameterOf (map (bytesAt s) xs) w
-argument-of {w} h xs = rw (word-part h) (ap (λ i. cond (sameWord w ignoredWord) ignored (names i)) (index-of _ xs w))
+argument-of : {s : Bytes} {p : ℕ} {w rest : Bytes} → Word s p w rest → 1 ≤ length w → (xs : List Span)
+    → argumentOf s xs p (wordEnd s p) ≡ parameterOf (map (bytesAt s) xs) w
+unfolding numberOf
+argument-of {s} h some xs =
+    let (e, f) = signed-at h some in
+    rw (word-part h, e, f, index-of s xs)
 
 -- a word of ARGS is that of its parameter
 parameter-found : (vs : List Bytes) (w : Bytes) → isArgument vs w ≡ true
     → (parameterWord vs (parameterOf vs w) ≡ w) × (soundParameter (length vs) (parameterOf vs w) ≡ true)
-parameter-found vs w = by (sameWord w ignoredWord) refl
+parameter-found vs w = by (sameWord w ignoredWord) (isSigned w) refl refl
   where
-    by : (t : Bool) → sameWord w ignoredWord ≡ t → (t || (isName w && known vs w)) ≡ true
-        → (parameterWord vs (cond t ignored (names (indexIn vs w))) ≡ w) × (soundParameter (length vs) (cond t ignored (names (indexIn vs w))) ≡ true)
-    by true e h = (sym (same-word w ignoredWord .0 e), refl)
-    by false e h = let k = and-true-split (isName w) (known vs w) h .1 in (getD-index vs w k, index-known vs w ∙ k)
+    signed : (w : Bytes) → isSigned w ≡ true → isNumber (unsigned w) ≡ true
+        → (fixedSign ∷ decimal (value 0 (unsigned w)) ≡ w) × (leb (value 0 (unsigned w)) numberLimit ≡ true)
+    signed [] e h = absurd (false≢true e)
+    signed (b ∷ w) e h =
+        let (i, l) = number-found w h in
+        (ap₂ _∷_ (sym (eqb-true b fixedSign e)) (sym i), le-leb (value 0 w) numberLimit l)
+
+    by : (t u : Bool) → sameWord w ignoredWord ≡ t → isSigned w ≡ u → (t || cond u (isNumber (unsigned w)) (isName w && known vs w)) ≡ true
+        → let a = cond t ignored (cond u (fixed (cond (isNumber (unsigned w)) (value 0 (unsigned w)) 0)) (names (indexIn vs w))) in
+        (parameterWord vs a ≡ w) × (soundParameter (length vs) a ≡ true)
+    by true u e f h = (sym (same-word w ignoredWord .0 e), refl)
+    by false true e f h = rw h (signed w f h)
+    by false false e f h = let k = and-true-split (isName w) (known vs w) h .1 in (getD-index vs w k, index-known vs w ∙ k)
 
 -- a parameter's word is read back
 module _ (vs : List Bytes) (named : all isName vs ≡ true) (d : distinct vs ≡ true) where
@@ -58,7 +77,11 @@ module _ (vs : List Bytes) (named : all isName vs ≡ true) (d : distinct vs ≡
       let l = ltb-true v (length vs) h in
       let n : isName (getD vs v []) ≡ true = all-at isName named (mem-getD vs v [] l) in
       let i = name-not-ignored (getD vs v []) n in
-      (rw (i, n) (known-getD vs v l), rw i (ap names (index-getD vs v d l)), name-word (getD vs v []) n)
+      let u = name-unsigned (getD vs v []) n in
+      (rw (i, u, n) (known-getD vs v l), rw (i, u) (ap names (index-getD vs v d l)), name-word (getD vs v []) n)
+  parameter-read (fixed n) h =
+      let (k, v, e) = number-read n (leb-true n numberLimit h) in
+      (k, rw (k, v), all-word isDigit refl refl (decimal n) e)
 
 -- words of ARGS are written from p on, up to the line's end, with room for so many
 pub record ArgumentsRead (s : Bytes) (vs : List Bytes) (room p : ℕ) : Type 0 where
@@ -82,7 +105,7 @@ module _ (s : Bytes) (xs : List Span) (vs : List Bytes) (g : map (bytesAt s) xs 
       → argumentsFrom s xs (suc room) ps p ≡ argumentsFrom s xs room (ps ++ (parameterOf vs w ∷ [])) (p + 1 + length w)
   arguments-next room ps p w rest n k =
       let t : isArgument (map (bytesAt s) xs) w ≡ true = rw g k in
-      rw (n .goes, argument-tested (n .word) (n .some) xs, t, ne-eqb (p + 1) p (λ i. omega arith), argument-of (n .word) xs, word-end (n .word), g)
+      rw (n .goes, argument-tested (n .word) (n .some) xs, t, ne-eqb (p + 1) p (λ i. omega arith), argument-of (n .word) (n .some) xs, word-end (n .word), g)
 
   arguments-ended : (room : ℕ) (ps : List Parameter) (p : ℕ) → nextWord s p ≡ go p
       → argumentsFrom s xs room ps p ≡ record { step = go (p + 1); parameters = ps }

@@ -3,19 +3,20 @@ use mathlib.Core.Path.{_≡_, refl, sym, ap, _∙_}
 use mathlib.Core.Bool.{Bool, true, false, not, _&&_, and-eq-true-iff, Bool·not-not}
 use mathlib.Core.List.{List, [], _∷_, map}
 use mathlib.Core.Logic.{⊎-elim}
-use Prim.Native.Nat.{ℕ, zero, suc, _+_, _/_, _%_, _≤_, _<_}
+use Prim.Native.Nat.{ℕ, zero, suc, _≤_, _<_}
 use native.Mathlib.Omega.{arith}
-use borrow.Author.Tests.{lt-ltb, ltb-true, leb-true}
+use borrow.Author.Tests.{lt-ltb, leb-true}
 use lib.Dec.{ltb, leb}
 use lib.ListN.{length, getD}
 use Rattle.laws.specs.Lists.{any, all, gather}
-use Rattle.laws.proofs.Lists.{and-true-split, or-true-split, all-append, all-map, all-at, all-of, not-any, either}
+use Rattle.laws.proofs.Lists.{and-true-split, or-true-split, all-append, all-map, all-at, all-of, not-any}
 use Rattle.pattern.specs.Regex.{Regex}
-use Rattle.meaning.specs.Events.{Parameter, ignored, names}
-use Rattle.meaning.specs.Book.{soundSymbol}
+use Rattle.meaning.specs.Events.{Parameter, ignored, names, fixed}
+use Rattle.meaning.specs.Book.{soundParameter, soundSymbol}
 use Rattle.form.specs.Text.{Bytes, isLower, isDigit, isNameByte, isName, decimal, SymbolLine, Declarations, spaced, parameterWord, symLine}
 use Rattle.form.specs.Text.{lf, varsLine, matchLine, header, text, symbolOf}
 use Rattle.form.specs.Form.{Shape, symbolNames}
+use Rattle.parsing.proofs.Numerals.{number-read}
 use Rattle.parsing.proofs.SymbolLines.{lineWords}
 use Rattle.parsing.proofs.Grammar.{tokens-signs, phrase-signs}
 
@@ -38,26 +39,19 @@ name-ascii (b ∷ w) h =
 names-ascii : (ws : List Bytes) → all isName ws ≡ true → all (all isAscii) ws ≡ true
 names-ascii ws h = all-of _ ws λ w m. name-ascii w (all-at isName h m)
 
-digit-ascii : (n : ℕ) → n < 10 → isAscii (48 + n) ≡ true
-digit-ascii n h = lt-ltb (48 + n) 128 (omega arith)
-
-decimal-ascii : (n : ℕ) → n ≤ 255 → all isAscii (decimal n) ≡ true
-unfolding decimal
-decimal-ascii n h =
-    let Fine : Bytes → Type 0 = λ w. all isAscii w ≡ true in
-    let last : isAscii (48 + n % 10) ≡ true = digit-ascii (n % 10) (omega arith) in
-    either Fine (ltb n 10) (λ e. rw (digit-ascii n (ltb-true n 10 e)))
-    λ _. either Fine (ltb n 100) (λ e. let k = ltb-true n 100 e in rw (digit-ascii (n / 10) (omega arith), last))
-    λ _. rw (digit-ascii (n / 100) (omega arith), digit-ascii (n / 10 % 10) (omega arith), last)
+decimal-ascii : (n : ℕ) → n ≤ 4294967295 → all isAscii (decimal n) ≡ true
+decimal-ascii n h = all-of _ (decimal n) λ b m. below 48 57 b (omega arith) (all-at isDigit (number-read n h .2) m)
 
 word-ascii : (vs : List Bytes) (v : ℕ) → all (all isAscii) vs ≡ true → all isAscii (getD vs v []) ≡ true
 word-ascii [] v h = refl
 word-ascii (w ∷ vs) zero h = and-true-split (all isAscii w) _ h .0
 word-ascii (w ∷ vs) (suc v) h = word-ascii vs v (and-true-split (all isAscii w) _ h .1)
 
-parameter-ascii : (vs : List Bytes) → all (all isAscii) vs ≡ true → (x : Parameter) → all isAscii (parameterWord vs x) ≡ true
-parameter-ascii vs h ignored = refl
-parameter-ascii vs h (names v) = word-ascii vs v h
+parameter-ascii : (vs : List Bytes) → all (all isAscii) vs ≡ true → (n : ℕ) (x : Parameter) → soundParameter n x ≡ true
+    → all isAscii (parameterWord vs x) ≡ true
+parameter-ascii vs h n ignored k = refl
+parameter-ascii vs h n (names v) k = word-ascii vs v h
+parameter-ascii vs h n (fixed m) k = decimal-ascii m (leb-true m 4294967295 k)
 
 spaced-ascii : (ws : List Bytes) → all (all isAscii) ws ≡ true → all isAscii (spaced ws) ≡ true
 spaced-ascii [] h = refl
@@ -70,9 +64,10 @@ line-ascii : (vs : List Bytes) (n : ℕ) (l : SymbolLine) → all (all isAscii) 
 unfolding soundSymbol
 line-ascii vs n l h a b =
     let kind = leb-true (l .kind) 255 (simp and-eq-true-iff at b .0 .0 .1) in
+    let sound : all (soundParameter n) (l .parameters) ≡ true = simp and-eq-true-iff at b .1 in
     let parameters : all (all isAscii) (map (parameterWord vs) (l .parameters)) ≡ true =
-    all-map _ _ (l .parameters) ∙ all-of _ (l .parameters) λ x _. parameter-ascii vs h x in
-    let words = spaced-ascii (lineWords vs l) (rw (name-ascii (l .name) a, decimal-ascii (l .kind) kind, parameters)) in
+    all-map _ _ (l .parameters) ∙ all-of _ (l .parameters) λ x m. parameter-ascii vs h n x (all-at (soundParameter n) sound m) in
+    let words = spaced-ascii (lineWords vs l) (rw (name-ascii (l .name) a, decimal-ascii (l .kind) (omega arith), parameters)) in
     all-append isAscii (spaced (lineWords vs l)) (lf ∷ []) ∙ rw words
 
 lines-ascii : (vs : List Bytes) (n : ℕ) (ls : List SymbolLine) → all (all isAscii) vs ≡ true → all isName (map (λ l. l .name) ls) ≡ true

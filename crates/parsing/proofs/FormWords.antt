@@ -8,7 +8,7 @@ use Prim.Native.Nat.{ℕ, zero, suc, _+_, _/_, _%_, _≤_, _<_}
 use Prim.Native.Char.{Char, code}
 use Prim.Native.String.{String}
 use native.Mathlib.Omega.{arith}
-use borrow.Author.Tests.{not-true, leb-true, le-leb, ltb-true, lt-ltb, le-ltb, eqb-true, eqb-false, eq-eqb, ne-eqb}
+use borrow.Author.Tests.{not-true, leb-true, le-leb, ltb-true, lt-ltb, eqb-true, eqb-false, eq-eqb, ne-eqb}
 use lib.Dec.{eqb, leb, ltb}
 use lib.ListN.{length, getD, take, length-append, List·getD-append}
 use lib.Seq.{getD-append-add}
@@ -16,17 +16,18 @@ use Rattle.laws.specs.Lists.{any, all, gather}
 use Rattle.laws.proofs.Lists.{and-true-split, or-true-split, or-false-split, any-none, any-found, any-of, mem-getD, mem-index, all-at, all-of}
 use Rattle.pattern.specs.Regex.{Regex, In}
 use Rattle.pattern.specs.Positions.{size}
-use Rattle.meaning.specs.Events.{Parameter, ignored, names}
+use Rattle.meaning.specs.Events.{Parameter, ignored, names, fixed}
 use Rattle.meaning.specs.Meaning.{noSymbol}
 use Rattle.meaning.specs.Book as Book
 use Rattle.meaning.specs.Book.{soundParameter, soundSymbol}
 use Rattle.form.specs.Text.{Bytes, lf, isLower, isDigit, isNameByte, isName, ascii, decimal, SymbolLine, Declarations, text, header, symbolOf}
 use Rattle.form.specs.Text.{spaced, parameterWord, varsLine, symLine, Span, variableSpans, symbolSpans, spans}
 use Rattle.form.specs.Form.{sameWord, distinct, symbolNames, allNames, binds, Shape, Form}
-use Rattle.form.specs.Scan.{run, isSpace, isWordByte}
+use Rattle.form.specs.Scan.{run, isSpace, isWordByte, value, isNumber}
 use Rattle.form.specs.Tokens.{Token, name, sign, tokensAfter, tokens}
 use Rattle.form.specs.Phrase.{Phrase, alternation}
 use Rattle.parsing.proofs.Scans.{same-word}
+use Rattle.parsing.proofs.Numerals.{decimal-tenth, number-read, number-found}
 
 -- "Variables and symbols share one set of names.": no two of them are the same bytes
 distinct-forth : (ws : List Bytes) → distinct ws ≡ true → (i j : ℕ) → i < j → j < length ws → getD ws i [] ≡ getD ws j [] → ⊥
@@ -104,9 +105,11 @@ none-of c l = (forth, λ f. by (any (eqb c) l) refl f)
     by false h f = refl
     by true h f = let (b, m, e) = any-found (eqb c) l h in absurd (f b m (sym (eqb-true c b e)))
 
--- "KIND is 1 to 255 … ARGS are 0 to 4 words, each a declared variable or `_`"
+-- "KIND is 1 to 255 … ARGS are 0 to 4 words, each a declared variable or `_`"; "An argument word may be `=` and a number 0 to 4294967295"
 abbrev pub Lined : ℕ → SymbolLine → Type 0
-Lined n l = (1 ≤ l .kind) × (l .kind ≤ 255) × (length (l .parameters) ≤ 4) × ((v : ℕ) → List·Memᴰ (names v) (l .parameters) → v < n)
+Lined n l =
+    (1 ≤ l .kind) × (l .kind ≤ 255) × (length (l .parameters) ≤ 4) × ((v : ℕ) → List·Memᴰ (names v) (l .parameters) → v < n)
+    × ((m : ℕ) → List·Memᴰ (fixed m) (l .parameters) → m ≤ 4294967295)
 
 pub line-words : (n : ℕ) (l : SymbolLine) → (soundSymbol n (symbolOf l) ≡ true) ↔ Lined n l
 unfolding soundSymbol
@@ -116,16 +119,23 @@ line-words n l = (forth, back)
     forth h =
         let (x, y) = and-true-split (leb 1 (l .kind) && leb (l .kind) 255 && leb (length (l .parameters)) 4) (all (soundParameter n) (l .parameters)) h in
         let (u, v) = and-true-split (leb 1 (l .kind) && leb (l .kind) 255) (leb (length (l .parameters)) 4) x in
-        let (a, b) = range 1 255 (l .kind) u in
-        (a, b, leb-true (length (l .parameters)) 4 v, λ w m. ltb-true w n (all-at (soundParameter n) y m))
+        let (a, b) = range 1 255 (l .kind) u in (
+          a,
+          b,
+          leb-true (length (l .parameters)) 4 v,
+          λ w m. ltb-true w n (all-at (soundParameter n) y m),
+          λ k m. leb-true k 4294967295 (all-at (soundParameter n) y m),
+        )
 
-    each : ((v : ℕ) → List·Memᴰ (names v) (l .parameters) → v < n) → (p : Parameter) → List·Memᴰ p (l .parameters) → soundParameter n p ≡ true
-    each f ignored m = refl
-    each f (names v) m = lt-ltb v n (f v m)
+    each : ((v : ℕ) → List·Memᴰ (names v) (l .parameters) → v < n) → ((m : ℕ) → List·Memᴰ (fixed m) (l .parameters) → m ≤ 4294967295)
+        → (p : Parameter) → List·Memᴰ p (l .parameters) → soundParameter n p ≡ true
+    each f g ignored m = refl
+    each f g (names v) m = lt-ltb v n (f v m)
+    each f g (fixed k) m = le-leb k 4294967295 (g k m)
 
     back : Lined n l → (leb 1 (l .kind) && leb (l .kind) 255 && leb (length (l .parameters)) 4 && all (soundParameter n) (l .parameters)) ≡ true
-    back (a, b, c, f) =
-        ap₂ _&&_ (ap₂ _&&_ (in-range 1 255 (l .kind) a b) (le-leb (length (l .parameters)) 4 c)) (all-of (soundParameter n) (l .parameters) (each f))
+    back (a, b, c, f, g) =
+        ap₂ _&&_ (ap₂ _&&_ (in-range 1 255 (l .kind) a b) (le-leb (length (l .parameters)) 4 c)) (all-of (soundParameter n) (l .parameters) (each f g))
 
 -- all of "The book" but its last sentence on words
 pub shape-words : (s : Bytes) (d : Declarations) (r : Regex)
@@ -165,22 +175,22 @@ shape-words s d r = (
   },
 )
 
--- "without leading zeros": one digit, two or three; 48 is the byte of 0
+-- "without extra leading zeros": a digit, or the digits of its tenth and one more; 48 is the byte of 0
 pub decimal-words : (n : ℕ)
-    → (n < 10 → decimal n ≡ (48 + n) ∷ []) × (10 ≤ n → n < 100 → decimal n ≡ (48 + n / 10) ∷ (48 + n % 10) ∷ [])
-    × (100 ≤ n → decimal n ≡ (48 + n / 100) ∷ (48 + n / 10 % 10) ∷ (48 + n % 10) ∷ [])
+    → (n < 10 → decimal n ≡ (48 + n) ∷ []) × (10 ≤ n → n < 10000000000 → decimal n ≡ decimal (n / 10) ++ ((48 + n % 10) ∷ []))
 unfolding decimal
-decimal-words n = (
-  λ h. rw (lt-ltb n 10 h) refl,
-  λ h k. rw (le-ltb n 10 h, lt-ltb n 100 k) refl,
-  λ h. rw (le-ltb n 10 (omega arith), le-ltb n 100 h) refl,
-)
+decimal-words n = (λ h. rw (lt-ltb n 10 h) refl, decimal-tenth n)
+
+-- "a number 0 to 4294967295 without extra leading zeros"
+pub number-words : (w : Bytes) → (isNumber w ≡ true) ↔ ((n : ℕ) × (n ≤ 4294967295) × (w ≡ decimal n))
+number-words w = (λ h. let (e, l) = number-found w h in (value 0 w, l, e), λ (n, l, e). rw e (number-read n l .0))
 
 -- The text that declarations and a pattern write, byte by byte: `vars` and the variables, a line for each symbol, `match`, a space, the pattern; a
 -- space before each word but the first of a line, LF (10) at each line's end.
 abbrev pub argumentWritten : List Bytes → Parameter → Bytes
 argumentWritten variables ignored = 95 ∷ []
 argumentWritten variables (names v) = getD variables v []
+argumentWritten variables (fixed n) = 61 ∷ decimal n
 
 spaced-gather : (ws : List Bytes) → spaced ws ≡ gather (λ w. 32 ∷ w) ws
 spaced-gather [] = refl
@@ -190,6 +200,7 @@ arguments-gather : (vs : List Bytes) (ps : List Parameter) → spaced (map (para
 arguments-gather vs [] = refl
 arguments-gather vs (ignored ∷ ps) = ap (λ l. 32 ∷ 95 ∷ l) (arguments-gather vs ps)
 arguments-gather vs (names v ∷ ps) = ap (λ l. 32 ∷ getD vs v [] ++ l) (arguments-gather vs ps)
+arguments-gather vs (fixed n ∷ ps) = ap (λ l. 32 ∷ 61 ∷ decimal n ++ l) (arguments-gather vs ps)
 
 abbrev pub lineWritten : List Bytes → SymbolLine → Bytes
 lineWritten vs l = ascii "sym" ++ (32 ∷ l .name ++ (32 ∷ decimal (l .kind) ++ (gather (λ p. 32 ∷ argumentWritten vs p) (l .parameters) ++ (10 ∷ []))))
@@ -259,6 +270,7 @@ binds-words d v a = (
     same : (p : Parameter) → Book.binds v p ≡ true → p ≡ names v
     same ignored h = absurd (true≢false (sym h))
     same (names u) h = ap names (sym (eqb-true v u h))
+    same (fixed n) h = absurd (true≢false (sym h))
 
     forth : (ps : List Parameter) → any (Book.binds v) ps ≡ true → List·Memᴰ (names v) ps
     forth ps h = let (p, m, e) = any-found (Book.binds v) ps h in subst (λ x. List·Memᴰ x ps) (same p e) m

@@ -11,12 +11,12 @@ use lib.ListN.{length, getD, length-map}
 use lib.Seq.{getD-drop}
 use Rattle.laws.specs.Lists.{any, all}
 use Rattle.laws.proofs.Lists.{same-test, and-true-split, any-append, any-of, any-none, mem-getD, or-false-split}
-use Rattle.form.specs.Text.{Bytes, space, lf, isLower, isDigit, isNameByte, isName, ignoredWord, Span}
+use Rattle.form.specs.Text.{Bytes, space, lf, isLower, isDigit, isNameByte, isName, ignoredWord, fixedSign, Span}
 use Rattle.form.specs.Form.{sameWord, distinct}
-use Rattle.form.specs.Scan.{at, pastEnd, run, part, isWordByte, wordEnd, nameEnd, nameFault}
+use Rattle.form.specs.Scan.{at, pastEnd, run, part, isWordByte, wordEnd, nameEnd, nameFault, isNumber}
 use Rattle.form.specs.Lines.{bytesAt, indexOf, declareFault, argumentFault}
 use Rattle.parsing.proofs.Scans.{same-word}
-use Rattle.parsing.proofs.Words.{Word, word-end, word-part, isWord, run-over, run-passes}
+use Rattle.parsing.proofs.Words.{Word, word-end, word-part, part-first, behind, isWord, run-over, run-passes}
 
 -- bytes that pass a test which space, LF and 256 fail are a word's
 module _ (f : ℕ → Bool) (no-space : f space ≡ false) (no-lf : f lf ≡ false) where
@@ -26,7 +26,7 @@ module _ (f : ℕ → Bool) (no-space : f space ≡ false) (no-lf : f lf ≡ fal
   word-byte : (b : ℕ) → f b ≡ true → isWordByte b ≡ true
   word-byte b h = rw (byte-differs b space no-space h, byte-differs b lf no-lf h)
 
-  all-word : (w : Bytes) → all f w ≡ true → all isWordByte w ≡ true
+  pub all-word : (w : Bytes) → all f w ≡ true → all isWordByte w ≡ true
   all-word [] h = refl
   all-word (b ∷ w) h = let a = and-true-split (f b) (all f w) h in ap₂ _&&_ (word-byte b (a .0)) (all-word w (a .1))
 
@@ -173,6 +173,27 @@ first-fault : (n c : ℕ) (t u : Bool) → eqb n 0 ≡ t → eqb c 0 ≡ u → e
 first-fault n c true u e f = rw (e, f)
 first-fault n c false u e f = rw (e, e)
 
+-- whether a word begins with the sign of fixed arguments, and what stands behind its first byte
+abbrev pub isSigned : Bytes → Bool
+isSigned [] = false
+isSigned (b ∷ w) = eqb b fixedSign
+
+abbrev pub unsigned : Bytes → Bytes
+unsigned [] = []
+unsigned (b ∷ w) = w
+
+-- a name does not begin so
+pub name-unsigned : (w : Bytes) → isName w ≡ true → isSigned w ≡ false
+name-unsigned [] h = refl
+name-unsigned (b ∷ w) h = byte-differs isLower refl refl b fixedSign refl (name-split b w h .0)
+
+pub signed-at : {s : Bytes} {p : ℕ} {w rest : Bytes} → Word s p w rest → 1 ≤ length w
+    → (eqb (at s p) fixedSign ≡ isSigned w) × (part s (p + 1) (wordEnd s p) ≡ unsigned w)
+signed-at {w = []} h some = absurd (omega arith)
+signed-at {s} {p} {w = b ∷ w} {rest} h some =
+    let e : wordEnd s p ≡ p + 1 + length w = word-end h ∙ omega arith in
+    (ap (λ c. eqb c fixedSign) (at-first h), rw e (part-first s (p + 1) w rest (behind s p (b ∷ []) (w ++ rest) (h .text))))
+
 -- the reader's tests for a new name, and for an argument
 module _ {s : Bytes} {p : ℕ} {w rest : Bytes} (h : Word s p w rest) (some : 1 ≤ length w) (xs : List Span) where
   index-tested : ltb (indexOf s xs (part s p (wordEnd s p))) (length xs) ≡ known (map (bytesAt s) xs) w
@@ -186,8 +207,11 @@ module _ {s : Bytes} {p : ℕ} {w rest : Bytes} (h : Word s p w rest) (some : 1 
       by true = refl
       by false = refl
 
-  pub argument-tested : eqb (argumentFault s xs p (wordEnd s p)) 0 ≡ (sameWord w ignoredWord || (isName w && known (map (bytesAt s) xs) w))
-  argument-tested = rw (ap (λ v. sameWord v ignoredWord) (word-part h)) (by (sameWord w ignoredWord))
+  pub argument-tested : eqb (argumentFault s xs p (wordEnd s p)) 0
+      ≡ (sameWord w ignoredWord || cond (isSigned w) (isNumber (unsigned w)) (isName w && known (map (bytesAt s) xs) w))
+  argument-tested =
+      let (e, f) = signed-at h some in
+      rw (ap (λ v. sameWord v ignoredWord) (word-part h), e, f) (by (sameWord w ignoredWord) (isSigned w))
     where
       n : ℕ
       n = nameFault s p (wordEnd s p)
@@ -195,10 +219,12 @@ module _ {s : Bytes} {p : ℕ} {w rest : Bytes} (h : Word s p w rest) (some : 1 
       c : ℕ
       c = cond (ltb (indexOf s xs (part s p (wordEnd s p))) (length xs)) 0 5
 
-      known-0 : (t : Bool) → eqb (cond t 0 5) 0 ≡ t
-      known-0 true = refl
-      known-0 false = refl
+      tested-0 : (m : ℕ) → eqb (suc m) 0 ≡ false → (t : Bool) → eqb (cond t 0 (suc m)) 0 ≡ t
+      tested-0 m e true = refl
+      tested-0 m e false = e
 
-      by : (t : Bool) → eqb (cond t 0 (cond (eqb n 0) c n)) 0 ≡ (t || (isName w && known (map (bytesAt s) xs) w))
-      by true = refl
-      by false = first-fault n c (isName w) _ (name-tested h some) (rw index-tested (known-0 (known (map (bytesAt s) xs) w)))
+      by : (t u : Bool) → eqb (cond t 0 (cond u (cond (isNumber (unsigned w)) 0 2) (cond (eqb n 0) c n))) 0
+          ≡ (t || cond u (isNumber (unsigned w)) (isName w && known (map (bytesAt s) xs) w))
+      by true u = refl
+      by false true = tested-0 1 refl (isNumber (unsigned w))
+      by false false = first-fault n c (isName w) _ (name-tested h some) (rw index-tested (tested-0 4 refl (known (map (bytesAt s) xs) w)))

@@ -75,8 +75,8 @@ module _ (s : Bytes) (p e n i : ℕ) (r : Read s p e n i) where
   read-all h = ap (value n) (sym (part-none s i e h)) ∙ r .same
 
   module _ (l : i < e) (h : e ≤ length s) where
-    pub read-small : e ≤ p + 3 → n < 100
-    read-small k = let m : i - p ≤ 2 = omega arith in omega (arith, r .few, pow-le-pow-right {n = 10} (omega arith) m)
+    pub read-small : e ≤ p + 10 → n < 1000000000
+    read-small k = let m : i - p ≤ 9 = omega arith in omega (arith, r .few, pow-le-pow-right {n = 10} (omega arith) m)
 
     digit-first : (isDigit (at s i) ≡ true) × (all isDigit (part s (i + 1) e) ≡ true)
     digit-first = and-true-split (isDigit (at s i)) _ (ap (all isDigit) (sym (part-cons s i e l h)) ∙ r .digits)
