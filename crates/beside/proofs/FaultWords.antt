@@ -112,7 +112,8 @@ module _ (s : Bytes) (q : ℕ) where
   pub word-two-said : (k i : ℕ) → WordTwo s q k i
       ≡ (((k ≡ 0) × (i ≡ 0) × (wordAt s q ≡ ascii "vars" → ⊥)) ⊎ (((1 ≤ k) × (i ≡ 0) × (wordAt s q ≡ ascii "sym" → ⊥))
       ⊎ ((Declaring s q k i × (isNameForm (wordAt s q) ≡ false)) ⊎ (((1 ≤ k) × (i ≡ 2) × ((n : ℕ) → 1 ≤ n → n ≤ 255 → wordAt s q ≡ decimal n → ⊥))
-      ⊎ (Arguing s q k i × (wordAt s q ≡ ascii "_" → ⊥) × (isNameForm (wordAt s q) ≡ false))))))
+      ⊎ ((Arguing s q k i × (wordAt s q ≡ ascii "_" → ⊥) × ((v : Bytes) → wordAt s q ≡ 61 ∷ v → ⊥) × (isNameForm (wordAt s q) ≡ false))
+      ⊎ (Arguing s q k i × ((v : Bytes) × (wordAt s q ≡ 61 ∷ v) × ((n : ℕ) → n ≤ 4294967295 → v ≡ decimal n → ⊥))))))))
   word-two-said k i = refl
 
   pub two-said : Two s q

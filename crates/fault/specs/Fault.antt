@@ -53,11 +53,12 @@ pub data WordFault (s : Bytes) (k i p : ℕ) : ℕ → Type 0 where
   already : {j h q : ℕ} → Declares k i → Word s j h q → Declares j h → q < p → wordAt s q ≡ wordAt s p → WordFault s k i p 4
   -- "KIND is 1 to 255 without leading zeros"; "A KIND out of range is 2"
   noKind : 1 ≤ k → i ≡ 2 → ((n : ℕ) → 1 ≤ n → n ≤ kindLimit → wordAt s p ≡ decimal n → ⊥) → WordFault s k i p 2
-  -- "ARGS are 0 to 4 words, each a declared variable or `_`", or such as begin with `=` (next): no name and none of these; a name over 12 bytes
-  noArgument : IsArgument k i → (wordAt s p ≡ ignoredWord → ⊥) → (at s p ≡ fixedSign → ⊥) → isNameForm (wordAt s p) ≡ false → WordFault s k i p 2
+  -- "ARGS are 0 to 4 words, each a declared variable or `_`", or begin with `=` (noNumber): no name and none of these; a name over 12 bytes
+  noArgument : IsArgument k i → (wordAt s p ≡ ignoredWord → ⊥) → ((w : Bytes) → wordAt s p ≡ fixedSign ∷ w → ⊥) → isNameForm (wordAt s p) ≡ false
+      → WordFault s k i p 2
   longArgument : IsArgument k i → isNameForm (wordAt s p) ≡ true → nameLimit < length (wordAt s p) → WordFault s k i p 3
   -- "An argument word may be `=` and a number 0 to 4294967295 without extra leading zeros; anything else after `=` is answer 2."
-  noNumber : IsArgument k i → at s p ≡ fixedSign → ((n : ℕ) → n ≤ numberLimit → wordAt s p ≡ fixedSign ∷ decimal n → ⊥) → WordFault s k i p 2
+  noNumber : {w : Bytes} → IsArgument k i → wordAt s p ≡ fixedSign ∷ w → ((n : ℕ) → n ≤ numberLimit → w ≡ decimal n → ⊥) → WordFault s k i p 2
   -- "name not declared": neither a variable nor, up to this line, a symbol has this name
   undeclaredArgument : IsArgument k i → isNameForm (wordAt s p) ≡ true → (VariableNamed s (wordAt s p) → ⊥) → (SymbolNamed s (suc k) (wordAt s p) → ⊥)
       → WordFault s k i p 5

@@ -182,8 +182,9 @@ module _ (s : Bytes) where
   argument-right : {p j h : ℕ} (xs : List Span) → IsArgument j h → Lists s IsVariable p xs → Arguing s xs (p + 1) 0
       → (n : ℕ) → WordFault s j h (p + 1) n → ⊥
   argument-right xs d y (Arguing.ignored e) n x = false≢true (ap isNameForm (sym e) ∙ argument-wrong d (inl e) x .0)
+  argument-right xs d y (Arguing.fixed m l e) n x = false≢true (ap isNameForm (sym e) ∙ argument-wrong d (inr (inl (m, l, e))) x .0)
   argument-right {p} xs d y (Arguing.variable a b c) n x =
-      ⊎-elim (λ z. omega arith) (λ z. none (z .0) (y (wordAt s (p + 1)) .0 c)) (argument-wrong d (inr a) x .1)
+      ⊎-elim (λ z. omega arith) (λ z. none (z .0) (y (wordAt s (p + 1)) .0 c)) (argument-wrong d (inr (inr a)) x .1)
     where
       none : NoVariable s (wordAt s (p + 1)) → Stood s IsVariable p (wordAt s (p + 1)) → ⊥
       none z k = z (k .number) (k .place) (rw (k .is .0) at (k .word)) (inl (refl, k .is .1, k .is .2)) (k .same)

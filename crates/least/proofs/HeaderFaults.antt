@@ -124,7 +124,9 @@ module _ (s : Bytes) where
       → SymbolNamed s (suc k) (wordAt s r) ⊎ (SymbolNamed s (suc k) (wordAt s r) → ⊥) → Arguing s xs r n → (n ≡ 0 → ⊥) → Least s r n
   argument-least xs v h c d y g (Arguing.ignored e) z = absurd (z refl)
   argument-least xs v h c d y g (Arguing.variable a b e) z = absurd (z refl)
-  argument-least {r = r} xs v h c d y g (Arguing.unnamed a b) z = two-least s r c (Fault.word v h (WordFault.noArgument d a b))
+  argument-least xs v h c d y g (Arguing.fixed n a b) z = absurd (z refl)
+  argument-least {r = r} xs v h c d y g (Arguing.unnamed a b e) z = two-least s r c (Fault.word v h (WordFault.noArgument d a b e))
+  argument-least {r = r} xs v h c d y g (Arguing.unnumbered a b) z = two-least s r c (Fault.word v h (WordFault.noNumber d a b))
   argument-least xs v h c d y g (Arguing.long a b) z = long-argument-least s v h c d a b
   argument-least xs v h c d y g (Arguing.unknown a b e) z = undeclared-argument-least s v h c d a b (λ (i, q, u, t, w). y e i q u t w) g
 

@@ -14,7 +14,7 @@ use Rattle.book.specs.Books.{reading}
 use Rattle.fault.specs.Places.{On, Ends, spotAt, Word, wordAt, NoMatch, Header, PatternLine, TokenAt, before, nameAt, tokenAt}
 use Rattle.fault.specs.Places.{occurrences, signs, Pattern, Begins}
 use Rattle.fault.specs.Fault.{isNameForm, IsArgument, VariableNamed, SymbolNamed, WordFault, Fault, Least}
-use Rattle.fault.specs.Fault.{notVars, notSym, noName, noKind, noArgument, word}
+use Rattle.fault.specs.Fault.{notVars, notSym, noName, noKind, noArgument, noNumber, word}
 use Rattle.fault.specs.Fault.{spaceFirst, spaceTwice, spaceLast, missingWord, missingSym, missingSpace, missingLF, after}
 use Rattle.fault.proofs.Ranks.{fault-listed}
 use Rattle.least.proofs.Sites.{Clean, two-least}
@@ -63,16 +63,18 @@ module _ (s : Bytes) (bytes : isBytes s ≡ true) (short : length s ≤ 4096) {k
   pub kind-words : 1 ≤ k → i ≡ 2 → ((n : ℕ) → 1 ≤ n → n ≤ 255 → wordAt s p ≡ decimal n → ⊥) → Answers 2
   kind-words a z n = two (noKind a z n)
 
-  -- "ARGS are 0 to 4 words, each a declared variable or `_`": no name and not `_` is 2, a name over 12 bytes 3, a name that no variable has 5, "a
-  -- symbol's name among ARGS" too
+  -- "ARGS are 0 to 4 words, each a declared variable or `_`", "An argument word may be `=` and a number 0 to 4294967295 without extra leading zeros": no
+  -- name, not `_` and without `=` is 2, "anything else after `=`" too; a name over 12 bytes 3, a name that no variable has 5, "a symbol's name among ARGS" too
   pub argument-words : 1 ≤ k → 3 ≤ i → i ≤ 6
-      → ((wordAt s p ≡ ascii "_" → ⊥) → isNameForm (wordAt s p) ≡ false → Answers 2)
+      → ((wordAt s p ≡ ascii "_" → ⊥) → ((v : Bytes) → wordAt s p ≡ 61 ∷ v → ⊥) → isNameForm (wordAt s p) ≡ false → Answers 2)
+      × ((v : Bytes) → wordAt s p ≡ 61 ∷ v → ((n : ℕ) → n ≤ 4294967295 → v ≡ decimal n → ⊥) → Answers 2)
       × (isNameForm (wordAt s p) ≡ true → 12 < length (wordAt s p) → Answers 3)
       × (isNameForm (wordAt s p) ≡ true → length (wordAt s p) ≤ 12 → (VariableNamed s (wordAt s p) → ⊥)
       → SymbolNamed s (suc k) (wordAt s p) ⊎ (SymbolNamed s (suc k) (wordAt s p) → ⊥) → Answers 5)
   argument-words a b c =
       let x : IsArgument k i = (a, b, c) in (
-        λ u f. two (noArgument x u f),
+        λ u v f. two (noArgument x u v f),
+        λ v e n. two (noNumber x e n),
         λ f n. answered s bytes short (long-argument-least s w h clean x f n),
         λ f n v y. answered s bytes short (undeclared-argument-least s w h clean x f n v y),
       )

@@ -42,13 +42,13 @@ module _ (s : Bytes) {k i p : ℕ} (w : Word s k i p) (h : Header s k) (clean : 
   pub long-argument-least : IsArgument k i → isNameForm (wordAt s p) ≡ true → 12 < length (wordAt s p) → Least s p 3
   long-argument-least d f b =
       word-least 3 (F.longArgument d f b)
-      λ m g. ⊎-elim (λ e. rw (e .1) (omega arith)) (λ e. rw (e .1) (omega arith)) (argument-wrong d (inr f) g .1)
+      λ m g. ⊎-elim (λ e. rw (e .1) (omega arith)) (λ e. rw (e .1) (omega arith)) (argument-wrong d (inr (inr f)) g .1)
 
   pub undeclared-argument-least : IsArgument k i → isNameForm (wordAt s p) ≡ true → length (wordAt s p) ≤ 12 → (VariableNamed s (wordAt s p) → ⊥)
       → SymbolNamed s (suc k) (wordAt s p) ⊎ (SymbolNamed s (suc k) (wordAt s p) → ⊥) → Least s p 5
   undeclared-argument-least d f b v y =
       word-least 5 (⊎-elim (F.symbolArgument d f v) (F.undeclaredArgument d f v) y)
-      λ m g. ⊎-elim (λ e. absurd (omega (arith, e .0))) (λ e. rw (e .1) (omega arith)) (argument-wrong d (inr f) g .1)
+      λ m g. ⊎-elim (λ e. absurd (omega (arith, e .0))) (λ e. rw (e .1) (omega arith)) (argument-wrong d (inr (inr f)) g .1)
 
   -- one word too many
   pub excess-least : IsExcess k i → Least s p 3

@@ -13,7 +13,7 @@ use Rattle.book.specs.Books.{reading}
 use Rattle.fault.specs.Places.{On, Ends, spotAt, Word, wordAt, NoMatch, Header, PatternLine, TokenAt, before, nameAt, tokenAt}
 use Rattle.fault.specs.Places.{occurrences, signs, Pattern, Begins}
 use Rattle.fault.specs.Fault.{isNameForm, VariableNamed, SymbolNamed, WordFault, TokenFault, Fault, word, token}
-use Rattle.fault.specs.Fault.{notVars, notSym, seventeenth, noName, longName, already, noKind, noArgument, longArgument}
+use Rattle.fault.specs.Fault.{notVars, notSym, seventeenth, noName, longName, already, noKind, noArgument, noNumber, longArgument}
 use Rattle.fault.specs.Fault.{undeclaredArgument, symbolArgument, fifthVariable, fifthArgument}
 use Rattle.fault.specs.Fault.{spaceFirst, spaceTwice, spaceLast, missingWord, missingSym, missingSpace, missingToken, missingLF, after}
 use Rattle.fault.specs.Fault.{longToken, thirtySecond, seventeenthOpen, undeclaredName, variableName, misplaced}
@@ -36,12 +36,13 @@ module _ (s : Bytes) (q : ℕ) where
   abbrev pub Arguing : ℕ → ℕ → Type 0
   Arguing k i = (1 ≤ k) × (3 ≤ i) × (i ≤ 6)
 
-  -- 2: no `vars`, no `sym`; no name; no KIND; no argument
+  -- 2: no `vars`, no `sym`; no name; no KIND; no argument; no number behind `=`
   abbrev pub WordTwo : ℕ → ℕ → Type 0
   WordTwo k i =
       ((k ≡ 0) × (i ≡ 0) × (wordAt s q ≡ ascii "vars" → ⊥)) ⊎ (((1 ≤ k) × (i ≡ 0) × (wordAt s q ≡ ascii "sym" → ⊥))
       ⊎ ((Declaring k i × (isNameForm (wordAt s q) ≡ false)) ⊎ (((1 ≤ k) × (i ≡ 2) × ((n : ℕ) → 1 ≤ n → n ≤ 255 → wordAt s q ≡ decimal n → ⊥))
-      ⊎ (Arguing k i × (wordAt s q ≡ ascii "_" → ⊥) × (isNameForm (wordAt s q) ≡ false)))))
+      ⊎ ((Arguing k i × (wordAt s q ≡ ascii "_" → ⊥) × ((v : Bytes) → wordAt s q ≡ 61 ∷ v → ⊥) × (isNameForm (wordAt s q) ≡ false))
+      ⊎ (Arguing k i × ((v : Bytes) × (wordAt s q ≡ 61 ∷ v) × ((n : ℕ) → n ≤ 4294967295 → v ≡ decimal n → ⊥)))))))
 
   -- 2: a space too many; a word that is missing; `match` before any `sym`, or no space behind it; no LF; something behind the last line
   abbrev pub Two : Type 0
@@ -115,7 +116,8 @@ module _ (s : Bytes) (q : ℕ) where
   word-reason {k} {i} w h (longName a b c) = three (inl (k, i, w, h, inr (inl (inl a, b, c))))
   word-reason {k} {i} w g (already {j} {h} {q = p} a b c d e) = four (k, i, w, g, (a, (j, h, p, b, c, d, e)))
   word-reason {k} {i} w h (noKind a b c) = two (inl (k, i, w, h, inr (inr (inr (inl (a, b, c))))))
-  word-reason {k} {i} w h (noArgument a b c) = two (inl (k, i, w, h, inr (inr (inr (inr (a, b, c))))))
+  word-reason {k} {i} w h (noArgument a b c d) = two (inl (k, i, w, h, inr (inr (inr (inr (inl (a, b, c, d)))))))
+  word-reason {k} {i} w h (noNumber {w = v} a b c) = two (inl (k, i, w, h, inr (inr (inr (inr (inr (a, (v, b, c))))))))
   word-reason {k} {i} w h (longArgument a b c) = three (inl (k, i, w, h, inr (inl (inr a, b, c))))
   word-reason {k} {i} w h (undeclaredArgument a b c d) = five (inl (k, i, w, h, (a, b, c)))
   word-reason {k} {i} w h (symbolArgument a b c d) = five (inl (k, i, w, h, (a, b, c)))

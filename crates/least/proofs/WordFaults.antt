@@ -1,12 +1,13 @@
 -- What may be wrong with a word, by what the word is for: the first of a line, a name that is declared, a kind, an argument, one too many.
 -- For HeaderFacts (nothing is wrong with a word that the course passes) and LeastFaults (which number comes first).
-use mathlib.Core.Path.{_≡_, refl, sym, _∙_}
+use mathlib.Core.Path.{_≡_, refl, sym, ap, _∙_}
 use mathlib.Core.Bool.{true, false≢true}
+use mathlib.Core.List.{_∷_}
 use mathlib.Core.Logic.{_⊎_, inl, inr}
 use Prim.Native.Nat.{ℕ, _≤_, _<_}
 use native.Mathlib.Omega.{arith}
-use lib.ListN.{length}
-use Rattle.form.specs.Text.{Bytes, varsWord, symWord, ignoredWord, decimal}
+use lib.ListN.{length, getD, drop}
+use Rattle.form.specs.Text.{Bytes, varsWord, symWord, ignoredWord, fixedSign, decimal}
 use Rattle.fault.specs.Places.{Word, wordAt}
 use Rattle.fault.specs.Fault.{WordFault, isNameForm, Declares, IsArgument}
 
@@ -41,6 +42,10 @@ excess-numbers : {k i : ℕ} → IsExcess k i → (5 ≤ i) × (1 ≤ k → i �
 excess-numbers (inl a) = (omega arith, λ h. absurd (omega arith))
 excess-numbers (inr a) = (omega arith, λ h. a .1)
 
+-- a word that may be an argument: `_`, `=` and a number, a name
+abbrev Fit : Bytes → Type 0
+Fit w = (w ≡ ignoredWord) ⊎ (((n : ℕ) × (n ≤ 4294967295) × (w ≡ fixedSign ∷ decimal n)) ⊎ (isNameForm w ≡ true))
+
 module _ {s : Bytes} {k i p : ℕ} where
   pub first-wrong : {n : ℕ} → i ≡ 0 → (k ≡ 0 → wordAt s p ≡ varsWord) → (1 ≤ k → wordAt s p ≡ symWord) → WordFault s k i p n
       → (k ≡ 17) × (n ≡ 3)
@@ -51,7 +56,8 @@ module _ {s : Bytes} {k i p : ℕ} where
   first-wrong z v y (WordFault.longName d a b) = absurd (omega (arith, declares-numbers d))
   first-wrong z v y (WordFault.already d a b c e) = absurd (omega (arith, declares-numbers d))
   first-wrong z v y (WordFault.noKind a b c) = absurd (omega arith)
-  first-wrong z v y (WordFault.noArgument a b c) = absurd (omega arith)
+  first-wrong z v y (WordFault.noArgument a b c g) = absurd (omega arith)
+  first-wrong z v y (WordFault.noNumber a b c) = absurd (omega arith)
   first-wrong z v y (WordFault.longArgument a b c) = absurd (omega arith)
   first-wrong z v y (WordFault.undeclaredArgument a b c g) = absurd (omega arith)
   first-wrong z v y (WordFault.symbolArgument a b c g) = absurd (omega arith)
@@ -68,7 +74,8 @@ module _ {s : Bytes} {k i p : ℕ} where
   name-wrong d f (WordFault.already {j} {h} {q} _ a b c e) =
       inr (record { line = j; number = h; place = q; word = a; is = b; before = c; same = e }, refl)
   name-wrong d f (WordFault.noKind a b c) = absurd (omega (arith, declares-numbers d .2 a))
-  name-wrong d f (WordFault.noArgument a b c) = absurd (omega (arith, declares-numbers d .2 (a .0)))
+  name-wrong d f (WordFault.noArgument a b c g) = absurd (omega (arith, declares-numbers d .2 (a .0)))
+  name-wrong d f (WordFault.noNumber a b c) = absurd (omega (arith, declares-numbers d .2 (a .0)))
   name-wrong d f (WordFault.longArgument a b c) = absurd (omega (arith, declares-numbers d .2 (a .0)))
   name-wrong d f (WordFault.undeclaredArgument a b c g) = absurd (omega (arith, declares-numbers d .2 (a .0)))
   name-wrong d f (WordFault.symbolArgument a b c g) = absurd (omega (arith, declares-numbers d .2 (a .0)))
@@ -83,14 +90,15 @@ module _ {s : Bytes} {k i p : ℕ} where
   kind-wrong h z m l r e (WordFault.longName d a b) = omega (arith, declares-numbers d .2 h)
   kind-wrong h z m l r e (WordFault.already d a b c f) = omega (arith, declares-numbers d .2 h)
   kind-wrong h z m l r e (WordFault.noKind a b c) = c m l r e
-  kind-wrong h z m l r e (WordFault.noArgument a b c) = omega arith
+  kind-wrong h z m l r e (WordFault.noArgument a b c g) = omega arith
+  kind-wrong h z m l r e (WordFault.noNumber a b c) = omega arith
   kind-wrong h z m l r e (WordFault.longArgument a b c) = omega arith
   kind-wrong h z m l r e (WordFault.undeclaredArgument a b c g) = omega arith
   kind-wrong h z m l r e (WordFault.symbolArgument a b c g) = omega arith
   kind-wrong h z m l r e (WordFault.fifthVariable a b) = omega arith
   kind-wrong h z m l r e (WordFault.fifthArgument a b) = omega arith
 
-  pub argument-wrong : {n : ℕ} → IsArgument k i → (wordAt s p ≡ ignoredWord) ⊎ (isNameForm (wordAt s p) ≡ true) → WordFault s k i p n
+  pub argument-wrong : {n : ℕ} → IsArgument k i → Fit (wordAt s p) → WordFault s k i p n
       → (isNameForm (wordAt s p) ≡ true) × (((12 < length (wordAt s p)) × (n ≡ 3)) ⊎ (NoVariable s (wordAt s p) × (n ≡ 5)))
   argument-wrong x f (WordFault.notVars a b c) = absurd (omega arith)
   argument-wrong x f (WordFault.notSym a b c) = absurd (omega arith)
@@ -99,8 +107,12 @@ module _ {s : Bytes} {k i p : ℕ} where
   argument-wrong x f (WordFault.longName d a b) = absurd (omega (arith, declares-numbers d .2 (x .0)))
   argument-wrong x f (WordFault.already d a b c e) = absurd (omega (arith, declares-numbers d .2 (x .0)))
   argument-wrong x f (WordFault.noKind a b c) = absurd (omega arith)
-  argument-wrong x (inl f) (WordFault.noArgument a b c) = absurd (b f)
-  argument-wrong x (inr f) (WordFault.noArgument a b c) = absurd (false≢true (sym c ∙ f))
+  argument-wrong x (inl f) (WordFault.noArgument a b c g) = absurd (b f)
+  argument-wrong x (inr (inl (n, l, f))) (WordFault.noArgument a b c g) = absurd (c (decimal n) f)
+  argument-wrong x (inr (inr f)) (WordFault.noArgument a b c g) = absurd (false≢true (sym g ∙ f))
+  argument-wrong x (inl f) (WordFault.noNumber a b c) = absurd (omega (arith, ap (λ w. getD w 0 0) (sym b ∙ f)))
+  argument-wrong x (inr (inl (n, l, f))) (WordFault.noNumber a b c) = absurd (c n l (ap (drop 1) (sym b ∙ f)))
+  argument-wrong x (inr (inr f)) (WordFault.noNumber a b c) = absurd (false≢true (sym (ap isNameForm b) ∙ f))
   argument-wrong x f (WordFault.longArgument a b c) = (b, inl (c, refl))
   argument-wrong x f (WordFault.undeclaredArgument a b c g) = (b, inr (λ h q u d e. c (h, q, u, d, e), refl))
   argument-wrong x f (WordFault.symbolArgument a b c g) = (b, inr (λ h q u d e. c (h, q, u, d, e), refl))
@@ -115,7 +127,8 @@ module _ {s : Bytes} {k i p : ℕ} where
   excess-wrong x (WordFault.longName d a b) = refl
   excess-wrong x (WordFault.already d a b c f) = absurd (omega (arith, excess-numbers x, declares-numbers d))
   excess-wrong x (WordFault.noKind a b c) = absurd (omega (arith, excess-numbers x))
-  excess-wrong x (WordFault.noArgument a b c) = absurd (omega (arith, excess-numbers x .1 (a .0)))
+  excess-wrong x (WordFault.noArgument a b c g) = absurd (omega (arith, excess-numbers x .1 (a .0)))
+  excess-wrong x (WordFault.noNumber a b c) = absurd (omega (arith, excess-numbers x .1 (a .0)))
   excess-wrong x (WordFault.longArgument a b c) = refl
   excess-wrong x (WordFault.undeclaredArgument a b c g) = absurd (omega (arith, excess-numbers x .1 (a .0)))
   excess-wrong x (WordFault.symbolArgument a b c g) = absurd (omega (arith, excess-numbers x .1 (a .0)))

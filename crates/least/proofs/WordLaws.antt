@@ -11,14 +11,15 @@ use lib.Dec.{eqb, leb, ltb}
 use lib.ListN.{length, length-map}
 use Rattle.laws.specs.Lists.{all}
 use Rattle.laws.proofs.Lists.{same-test, and-true-split, or-true-split, any-append}
-use Rattle.form.specs.Text.{Bytes, isLower, isNameByte, ignoredWord, decimal, Span}
+use Rattle.form.specs.Text.{Bytes, isLower, isNameByte, ignoredWord, fixedSign, decimal, Span}
 use Rattle.form.specs.Form.{sameWord}
-use Rattle.form.specs.Scan.{at, isWordByte, run, part, wordEnd, nameFault, kindOf}
+use Rattle.form.specs.Scan.{at, isWordByte, run, part, wordEnd, nameFault, kindOf, isNumber}
 use Rattle.form.specs.Lines.{bytesAt, spanOf, indexOf, declareFault, argumentFault}
 use Rattle.parsing.proofs.Scans.{same-word, wordEnd-ge}
 use Rattle.parsing.proofs.Words as words
 use Rattle.parsing.proofs.Words.{word-here, word-part, run-over, run-passes, byte-inside}
-use Rattle.parsing.proofs.Names.{at-first, fault-at, stops-name, lower-name-byte, known, index-of, indexIn, index-known}
+use Rattle.parsing.proofs.Names.{at-first, fault-at, stops-name, lower-name-byte, known, index-of, indexIn, index-known, isSigned, unsigned, signed-at}
+use Rattle.parsing.proofs.FormWords.{number-words}
 use Rattle.parsing.proofs.Numerals.{kindIn, kind-of, kind-read, kind-found}
 use Rattle.fault.specs.Places.{Word, wordAt}
 use Rattle.fault.specs.Fault.{isNameForm}
@@ -77,6 +78,17 @@ module _ {s : Bytes} {k i p : ℕ} (v : Word s k i p) where
       let f = kind-found (wordAt s p) (λ e. z (kind-number ∙ e)) in
       (kindIn (wordAt s p), f .1, f .2, f .0)
 
+  -- whether the sign of a fixed argument stands at p, by the bytes of the word
+  signed-word : eqb (at s p) fixedSign ≡ true → wordAt s p ≡ fixedSign ∷ part s (p + 1) (wordEnd s p)
+  signed-word e = let (a, b) = signed-at (found s p .1) word-some in rw b (by (wordAt s p) (sym a ∙ e))
+    where
+      by : (w : Bytes) → isSigned w ≡ true → w ≡ fixedSign ∷ unsigned w
+      by [] h = absurd (false≢true h)
+      by (b ∷ w) h = ap (_∷ w) (eqb-true b fixedSign h)
+
+  unsigned-word : eqb (at s p) fixedSign ≡ false → (w : Bytes) → wordAt s p ≡ fixedSign ∷ w → ⊥
+  unsigned-word e w h = false≢true (sym e ∙ signed-at (found s p .1) word-some .0 ∙ ap isSigned h)
+
 -- the word w is among the names at xs
 abbrev pub Among : Bytes → List Span → Bytes → Type 0
 Among s xs w = indexOf s xs w < length xs
@@ -124,8 +136,10 @@ pub data Declaring (s : Bytes) (xs : List Span) (p : ℕ) : ℕ → Type 0 where
 -- and as an argument
 pub data Arguing (s : Bytes) (xs : List Span) (p : ℕ) : ℕ → Type 0 where
   ignored : wordAt s p ≡ ignoredWord → Arguing s xs p 0
+  fixed : (n : ℕ) → n ≤ 4294967295 → wordAt s p ≡ fixedSign ∷ decimal n → Arguing s xs p 0
   variable : isNameForm (wordAt s p) ≡ true → length (wordAt s p) ≤ 12 → Among s xs (wordAt s p) → Arguing s xs p 0
-  unnamed : (wordAt s p ≡ ignoredWord → ⊥) → isNameForm (wordAt s p) ≡ false → Arguing s xs p 2
+  unnamed : (wordAt s p ≡ ignoredWord → ⊥) → ((w : Bytes) → wordAt s p ≡ fixedSign ∷ w → ⊥) → isNameForm (wordAt s p) ≡ false → Arguing s xs p 2
+  unnumbered : {w : Bytes} → wordAt s p ≡ fixedSign ∷ w → ((n : ℕ) → n ≤ 4294967295 → w ≡ decimal n → ⊥) → Arguing s xs p 2
   long : isNameForm (wordAt s p) ≡ true → 12 < length (wordAt s p) → Arguing s xs p 3
   unknown : isNameForm (wordAt s p) ≡ true → length (wordAt s p) ≤ 12 → (Among s xs (wordAt s p) → ⊥) → Arguing s xs p 5
 
@@ -162,12 +176,24 @@ module _ {s : Bytes} {k i p : ℕ} (v : Word s k i p) (xs : List Span) where
 
   pub arguing : Arguing s xs p (argumentFault s xs p (wordEnd s p))
   unfolding isShort isAmong
-  arguing = rw (name-number v) (by (sameWord (wordAt s p) ignoredWord) (isNameForm (wordAt s p)) isShort isAmong refl refl refl refl)
+  arguing =
+      rw (name-number v)
+      (by (sameWord (wordAt s p) ignoredWord) (eqb (at s p) fixedSign) (isNumber behind) (isNameForm (wordAt s p)) isShort isAmong refl refl refl refl refl refl)
     where
-      by : (y t u x : Bool) → sameWord (wordAt s p) ignoredWord ≡ y → isNameForm (wordAt s p) ≡ t → isShort ≡ u → isAmong ≡ x
-          → Arguing s xs p (let n : ℕ = cond t (cond u 0 3) 2 in cond y 0 (cond (eqb n 0) (cond x 0 5) n))
-      by true t u x d e f g = Arguing.ignored (same-word (wordAt s p) ignoredWord .0 d)
-      by false true true true d e f g = Arguing.variable e (short f) (among g)
-      by false true true false d e f g = Arguing.unknown e (short f) (other g)
-      by false true false x d e f g = Arguing.long e (over f)
-      by false false u x d e f g = Arguing.unnamed (λ h. false≢true (sym d ∙ same-word (wordAt s p) ignoredWord .1 h)) e
+      behind : Bytes
+      behind = part s (p + 1) (wordEnd s p)
+
+      by : (y z m t u x : Bool) → sameWord (wordAt s p) ignoredWord ≡ y → eqb (at s p) fixedSign ≡ z → isNumber behind ≡ m → isNameForm (wordAt s p) ≡ t
+          → isShort ≡ u → isAmong ≡ x
+          → Arguing s xs p (let n : ℕ = cond t (cond u 0 3) 2 in cond y 0 (cond z (cond m 0 2) (cond (eqb n 0) (cond x 0 5) n)))
+      by true z m t u x a b c d e f = Arguing.ignored (same-word (wordAt s p) ignoredWord .0 a)
+      by false true true t u x a b c d e f =
+          let (n, l, w) = number-words behind .0 c in
+          Arguing.fixed n l (signed-word v b ∙ ap (fixedSign ∷_) w)
+      by false true false t u x a b c d e f =
+          Arguing.unnumbered (signed-word v b) (λ n l w. false≢true (sym c ∙ number-words behind .1 (n, l, w)))
+      by false false m true true true a b c d e f = Arguing.variable d (short e) (among f)
+      by false false m true true false a b c d e f = Arguing.unknown d (short e) (other f)
+      by false false m true false x a b c d e f = Arguing.long d (over e)
+      by false false m false u x a b c d e f =
+          Arguing.unnamed (λ h. false≢true (sym a ∙ same-word (wordAt s p) ignoredWord .1 h)) (unsigned-word v b) d
