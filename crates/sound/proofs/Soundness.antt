@@ -5,16 +5,16 @@ use mathlib.Core.Bool.{Bool, true, _&&_, and-eq-true-iff}
 use mathlib.Core.List.{map}
 use Prim.Native.Nat.{ℕ, _≤_}
 use native.Mathlib.Omega.{arith}
-use borrow.Author.Tests.{leb-true, le-leb, ltb-true, lt-ltb}
+use borrow.Author.Tests.{leb-true, le-leb}
 use lib.Dec.{leb}
 use lib.ListN.{length, take, length-take}
 use Rattle.laws.specs.Lists.{all}
 use Rattle.laws.proofs.Lists.{and-true-split, all-at, all-of, all-map}
-use Rattle.meaning.specs.Events.{Parameter, ignored, names}
 use Rattle.meaning.specs.Book.{soundParameter, soundSymbol, soundBook}
 use Rattle.meaning.specs.Sound.{soundDisjunct, soundPiece, soundHeld, soundState}
 use Rattle.table.specs.declared.Symbol.{Symbol}
 use Rattle.table.specs.Tables.{viewSymbol}
+use Rattle.table.proofs.Codes.{parameter-wide}
 use Rattle.disjunct.specs.Disjuncts.{viewDisjunct}
 use Rattle.book.specs.declared.Book.{Book}
 use Rattle.book.specs.Books.{viewBook}
@@ -37,11 +37,6 @@ symbols-told : (b : Book) → bookSound b ≡ true → let l = take (b .symbols)
 unfolding bookSound bookCounts soundBook viewBook
 symbols-told b h = let p = simp and-eq-true-iff at h in (search, search)
 
--- a variable of the book is one of four
-parameter-wide : (n : ℕ) → n ≤ 4 → (p : Parameter) → soundParameter n p ≡ true → soundParameter 4 p ≡ true
-parameter-wide n h ignored k = refl
-parameter-wide n h (names v) k = lt-ltb v 4 (omega (arith, ltb-true v n k))
-
 symbol-wide : (n : ℕ) → n ≤ 4 → (y : Symbol) → symbolCounts y ≡ true → soundSymbol n (viewSymbol y) ≡ true
     → (leb (y .count) 4 && all (soundParameter 4) (viewSymbol y .parameters)) ≡ true
 unfolding symbolCounts soundSymbol
@@ -49,7 +44,7 @@ symbol-wide n h y c k =
     let p = simp and-eq-true-iff at c in
     let q = simp and-eq-true-iff at k in
     let s : all (soundParameter n) (viewSymbol y .parameters) ≡ true = search in
-    ap₂ _&&_ (p .0) (all-of (soundParameter 4) (viewSymbol y .parameters) (λ x m. parameter-wide n h x (all-at (soundParameter n) s m)))
+    ap₂ _&&_ (p .0) (all-of (soundParameter 4) (viewSymbol y .parameters) (λ x m. parameter-wide n 4 h x (all-at (soundParameter n) s m)))
 
 pub book-symbols : (b : Book) → bookSound b ≡ true
     → all (λ y. leb (y .count) 4 && all (soundParameter 4) (viewSymbol y .parameters)) (take (b .symbols) (b .table)) ≡ true

@@ -5,7 +5,7 @@ use mathlib.Core.List.{List, [], _∷_, _++_, map, map-append, append-nil, appen
 use Prim.Native.Nat.{ℕ, _+_, _-_, _≤_, _<_}
 use native.Mathlib.Omega.{arith}
 use lib.Dec.{eqb, leb}
-use borrow.Author.Tests.{eqb-true, eqb-false, le-leb}
+use borrow.Author.Tests.{eqb-true, eqb-false, le-leb, ltb-true, lt-ltb}
 use lib.ListN.{length, take, drop, set, length-append, length-take, length-drop, length-replicate, length-map}
 use lib.Seq.{take-all, take-at, drop-at, take-add}
 use Rattle.laws.specs.Lists.{all}
@@ -64,6 +64,12 @@ view-either P p named fixed neither = by (eqb (p .tag) 1) (eqb (p .tag) 2) refl 
 pub view-named : (p : Parameter) → p .tag ≡ 1 → viewParameter p ≡ Events.Parameter.names (p .number)
 view-named p h =
     view-either (λ x. x ≡ Events.Parameter.names (p .number)) p (λ _. refl) (λ k. absurd (omega (arith, h, k))) (λ n _. absurd (n h))
+
+-- a parameter that is sound for some variables is so for more
+pub parameter-wide : (n m : ℕ) → n ≤ m → (p : Events.Parameter) → soundParameter n p ≡ true → soundParameter m p ≡ true
+parameter-wide n m h Events.Parameter.ignored k = refl
+parameter-wide n m h (Events.Parameter.names v) k = lt-ltb v m (omega (arith, ltb-true v n k))
+parameter-wide n m h (Events.Parameter.fixed x) k = k
 
 view-back : (y : Events.Symbol) → viewSymbol (symbolOf y) ≡ y
 unfolding viewSymbol symbolOf

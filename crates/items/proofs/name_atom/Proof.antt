@@ -6,7 +6,7 @@ use Prim.Native.Nat.{ℕ, zero, suc, _-_, _≤_, _<_}
 use native.Mathlib.Omega.{arith}
 use native.Mathlib.Numerals.{add-one}
 use borrow.Author.Needs.{needs}
-use borrow.Author.Tests.{lt-ltb, le-ltb, lt-leb, le-leb, leb-true, ltb-true}
+use borrow.Author.Tests.{lt-ltb, le-ltb, lt-leb, le-leb, leb-true}
 use lib.Dec.{ltb}
 use lib.ListN.{length, getD, length-map}
 use Rattle.laws.specs.Lists.{all}
@@ -25,7 +25,7 @@ use Rattle.parsing.proofs.Scans.{nameEnd-ge, nameEnd-le}
 use Rattle.table.specs.declared.Symbol.{Symbol}
 use Rattle.table.specs.declared.Table.{Table}
 use Rattle.table.specs.Tables.{symbolOf, tableOf, viewSymbol, viewTable, inside, Ready}
-use Rattle.table.proofs.Codes.{view-symbol, names-symbols, ready-fits}
+use Rattle.table.proofs.Codes.{parameter-wide, view-symbol, names-symbols, ready-fits}
 use Rattle.items.specs.Results.{parsedOf}
 use Rattle.items.proofs.Leaves.{failed-parsed}
 use Rattle.items.proofs.name_atom.Statement.{statement}
@@ -36,12 +36,6 @@ getD-in : {A B : Type 0} (f : A → B) (l : List A) (i : ℕ) (d : B) (e : A) �
 getD-in f [] i d e h = absurd (omega arith)
 getD-in f (x ∷ l) zero d e h = refl
 getD-in f (x ∷ l) (suc i) d e h = getD-in f l i d e (omega arith)
-
--- a sound parameter of few variables is one of 32
-wider : (n : ℕ) → n ≤ 32 → (p : Events.Parameter) → soundParameter n p ≡ true → soundParameter 32 p ≡ true
-wider n h Events.Parameter.ignored e = refl
-wider n h (Events.Parameter.names v) e = lt-ltb v 32 (omega (arith, ltb-true v n e))
-wider n h (Events.Parameter.fixed m) e = e
 
 -- a ready table and its plain view
 module _ (s : Bytes) (t : Table) (ready : Ready s t) where
@@ -88,7 +82,7 @@ module _ (s : Bytes) (t : Table) (ready : Ready s t) where
     fits =
         let sound = all-at _ (ready .declared) mem in
         let e : t .variables ≤ 32 = omega arith in
-        (rw coded few, rw viewed (all-of _ (plain .parameters) (λ p m. wider _ e p (all-at _ sound m))))
+        (rw coded few, rw viewed (all-of _ (plain .parameters) (λ p m. parameter-wide _ 32 e p (all-at _ sound m))))
 
 -- what is left to say of a name that is short enough and not one too many
 name-at : (s : Bytes) (l : List Span) (used q e a : ℕ) → e ≡ nameEnd s q → e - q ≤ 12 → used < 31 → a ≡ indexOf s l (part s q e)

@@ -14,9 +14,9 @@ returns c = let a = c .before .before .before .args in sym (parameter-named (a .
 
 returns-2 : tie.Need-returns-2
 returns-2 c =
-    let s = c .before .before .before in
+    let s = c .before .before .before .before in
     let w : s .args .p .number < 2 ^ 32 = search needs in
-    sym (parameter-other (s .args .variables) (s .args .p) w (c .if1 .left))
+    sym (parameter-other (s .args .variables) (s .args .p) w (c .before .if1 .left))
 
 pub sound-parameter-spec : {M : Type 1} → statement M
 sound-parameter-spec = tie.close (tie.spec cast-v returns returns-2)
