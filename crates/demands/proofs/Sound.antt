@@ -46,8 +46,8 @@ every : {A : Type 0} (f : A → Bool) (P : A → Type 0) → ((x : A) → (f x �
 every f P e l = (λ h x m. e x .0 (all-at f h m), λ g. all-of f l (λ x m. e x .1 (g x m)))
 
 -- "KIND is 1 to 255 … ARGS are 0 to 4 words, each a declared variable or `_`", or "`=` and a number 0 to 4294967295"
-abbrev Placed : ℕ → Parameter → Type 0
-Placed v p = (p .tag ≡ 0) ⊎ (((p .tag ≡ 1) × (p .number < v)) ⊎ ((p .tag ≡ 2) × (p .number ≤ 4294967295)))
+abbrev SoundPlace : ℕ → Parameter → Type 0
+SoundPlace v p = (p .tag ≡ 0) ⊎ (((p .tag ≡ 1) × (p .number < v)) ⊎ ((p .tag ≡ 2) × (p .number ≤ 4294967295)))
 
 tag-zero : (n : ℕ) → n ≤ 2 → (n ≡ 1 → ⊥) → (n ≡ 2 → ⊥) → n ≡ 0
 tag-zero zero h a b = refl
@@ -55,16 +55,16 @@ tag-zero (suc zero) h a b = absurd (a refl)
 tag-zero (suc (suc zero)) h a b = absurd (b refl)
 tag-zero (suc (suc (suc n))) h a b = absurd (omega (arith, h))
 
-parameter-words : (v : ℕ) (p : Parameter) → ((leb (p .tag) 2 && soundParameter v (viewParameter p)) ≡ true) ↔ Placed v p
+parameter-words : (v : ℕ) (p : Parameter) → ((leb (p .tag) 2 && soundParameter v (viewParameter p)) ≡ true) ↔ SoundPlace v p
 parameter-words v p = (forth, back)
   where
-    forth : (leb (p .tag) 2 && soundParameter v (viewParameter p)) ≡ true → Placed v p
+    forth : (leb (p .tag) 2 && soundParameter v (viewParameter p)) ≡ true → SoundPlace v p
     forth h =
         let (a, s) = and-true-split (leb (p .tag) 2) (soundParameter v (viewParameter p)) h in
-        view-either (λ x. soundParameter v x ≡ true → Placed v p) p (λ o q. inr (inl (o, ltb-true (p .number) v q)))
+        view-either (λ x. soundParameter v x ≡ true → SoundPlace v p) p (λ o q. inr (inl (o, ltb-true (p .number) v q)))
         (λ o q. inr (inr (o, leb-true (p .number) 4294967295 q))) (λ m n _. inl (tag-zero (p .tag) (leb-true (p .tag) 2 a) m n)) s
 
-    back : Placed v p → (leb (p .tag) 2 && soundParameter v (viewParameter p)) ≡ true
+    back : SoundPlace v p → (leb (p .tag) 2 && soundParameter v (viewParameter p)) ≡ true
     back (inl z) = rw z
     back (inr (inl (o, l))) = rw (o, lt-ltb (p .number) v l)
     back (inr (inr (o, l))) = rw (o, le-leb (p .number) 4294967295 l)
@@ -84,9 +84,9 @@ needed false f h = absurd (false≢true (sym (f refl) ∙ h))
 
 symbol-words : (v : ℕ) (y : Symbol) → (symbolSound v y ≡ true)
     ↔ ((1 ≤ y .kind) × (y .kind ≤ 255) × (y .count ≤ 4)
-    × ((p : Parameter) → List·Memᴰ p (take (y .count) (y .parameters)) → Placed v p))
+    × ((p : Parameter) → List·Memᴰ p (take (y .count) (y .parameters)) → SoundPlace v p))
 symbol-words v y =
-    let ps = every (λ (p : Parameter). leb (p .tag) 2 && soundParameter v (viewParameter p)) (Placed v) (parameter-words v) (take (y .count) (y .parameters)) in (
+    let ps = every (λ (p : Parameter). leb (p .tag) 2 && soundParameter v (viewParameter p)) (SoundPlace v) (parameter-words v) (take (y .count) (y .parameters)) in (
       λ h. let few = within (y .count) 4 (Parts.symbol-many v y) h in
           let (k, a) = and-true-split (leb 1 (y .kind) && leb (y .kind) 255) _ (sym (Parts.symbol-parts v y few) ∙ h) in
           let (i, j) = and-true-split (leb 1 (y .kind)) (leb (y .kind) 255) k in

@@ -1,4 +1,4 @@
--- The table of the starred roasts of document 01 and a few of our own, as bytes: texts with the records sent under them and the lines that
+-- The table of the starred roasts of document 01 and some of our own, those of document 02's change 1 among them, as bytes: texts with the records sent under them and the lines that
 -- come back, and texts with the number and place that their reading gets. The theorems about the whole table are in ../proofs/Starred.antt.
 use mathlib.Core.List.{List, [], _∷_, _++_, map}
 use mathlib.Core.Bool.{cond}
@@ -213,4 +213,27 @@ table =
     (line (sent 2 []) 0 [] ∷ line (sent 1 []) 0 [] ∷ line (sent 1 []) 0 [] ∷ line (sent 1 []) 0 [] ∷ line (sent 2 []) 0 (row 5 [] ∷ []) ∷ [])
     ∷ runs "vars\nsym a 1\nsym b 2\nmatch b a?+ b\n"
     (line (sent 2 []) 0 [] ∷ line (sent 1 []) 0 [] ∷ line (sent 1 []) 0 [] ∷ line (sent 2 []) 0 (row 4 [] ∷ []) ∷ [])
+    -- ours, "The symbol's constraint is false where that argument differs.": load(3,7) counts, load(4,8), clean(4) and drop(4) concern nothing
+    ∷ runs "vars s\nsym load 1 =3 s\nsym drop 2 =3\nsym clean 3 =3\nmatch load drop\n"
+    (line (load 3 7) 0 [] ∷ line (load 4 8) 0 [] ∷ line (clean 4) 0 [] ∷ line (dropped 4) 0 [] ∷ line (dropped 3) 0 (row 5 (7 ∷ []) ∷ [])
+    ∷ line (load 3 9) 0 [] ∷ line (clean 3) 0 [] ∷ line (dropped 3) 0 [] ∷ [])
+    -- ours: fill(1,7,0), whose third argument is not 1, excludes nothing, so that seal(1,7) gives a row; fill(1,8,1) excludes
+    ∷ runs "vars d s\nsym open 5 d\nsym fill 1 d s =1\nsym seal 6 d s\nmatch open seal\n"
+    (line (opened 1) 0 [] ∷ line (sent 1 (1 ∷ 7 ∷ 0 ∷ [])) 0 [] ∷ line (seal 1 7) 0 (row 3 (1 ∷ 7 ∷ []) ∷ []) ∷ line (sent 1 (1 ∷ 8 ∷ 1 ∷ [])) 0 []
+    ∷ line (seal 1 8) 0 [] ∷ line (seal 1 9) 0 (row 6 (1 ∷ 9 ∷ []) ∷ []) ∷ [])
+    -- ours: nor does it take room: after six exclusions fill(1,7,0) is taken, fill(1,7,1) is 12
+    ∷ runs "vars d s\nsym open 5 d\nsym fill 1 d s =1\nsym seal 6 d s\nmatch open seal\n"
+    (line (opened 1) 0 [] ∷ line (sent 1 (1 ∷ 1 ∷ 1 ∷ [])) 0 [] ∷ line (sent 1 (1 ∷ 2 ∷ 1 ∷ [])) 0 [] ∷ line (sent 1 (1 ∷ 3 ∷ 1 ∷ [])) 0 []
+    ∷ line (sent 1 (1 ∷ 4 ∷ 1 ∷ [])) 0 [] ∷ line (sent 1 (1 ∷ 5 ∷ 1 ∷ [])) 0 [] ∷ line (sent 1 (1 ∷ 6 ∷ 1 ∷ [])) 0 [] ∷ line (sent 1 (1 ∷ 7 ∷ 0 ∷ [])) 0 []
+    ∷ line (sent 1 (1 ∷ 7 ∷ 1 ∷ [])) 12 [] ∷ [])
+    -- ours, "`=` and a number 0 to 4294967295 without extra leading zeros; anything else after `=` is answer 2": the largest and 0, the next (0 in 32 bits),
+    -- 3 in 64 bits, an extra zero, nothing; a fifth argument is 3; a fixed argument binds nothing
+    ∷ runs "vars\nsym a 1 =4294967295 =0\nmatch a\n"
+    (line (sent 1 (4294967295 ∷ 0 ∷ [])) 0 (row 1 [] ∷ []) ∷ line (sent 1 (4294967294 ∷ 0 ∷ [])) 0 [] ∷ line (sent 1 (4294967295 ∷ 1 ∷ [])) 0 [] ∷ [])
+    ∷ reads "vars\nsym a 1 =4294967296\nmatch a\n" 2 13
+    ∷ reads "vars\nsym a 1 =18446744073709551619\nmatch a\n" 2 13
+    ∷ reads "vars\nsym a 1 =01\nmatch a\n" 2 13
+    ∷ reads "vars\nsym a 1 =\nmatch a\n" 2 13
+    ∷ reads "vars\nsym a 1 =1 =2 =3 =4 =5\nmatch a\n" 3 25
+    ∷ reads "vars d\nsym a 1 =3\nmatch a\n" 8 24
     ∷ []

@@ -43,8 +43,8 @@ excess-numbers (inl a) = (omega arith, λ h. absurd (omega arith))
 excess-numbers (inr a) = (omega arith, λ h. a .1)
 
 -- a word that may be an argument: `_`, `=` and a number, a name
-abbrev Fit : Bytes → Type 0
-Fit w = (w ≡ ignoredWord) ⊎ (((n : ℕ) × (n ≤ 4294967295) × (w ≡ fixedSign ∷ decimal n)) ⊎ (isNameForm w ≡ true))
+abbrev Arguable : Bytes → Type 0
+Arguable w = (w ≡ ignoredWord) ⊎ (((n : ℕ) × (n ≤ 4294967295) × (w ≡ fixedSign ∷ decimal n)) ⊎ (isNameForm w ≡ true))
 
 module _ {s : Bytes} {k i p : ℕ} where
   pub first-wrong : {n : ℕ} → i ≡ 0 → (k ≡ 0 → wordAt s p ≡ varsWord) → (1 ≤ k → wordAt s p ≡ symWord) → WordFault s k i p n
@@ -98,7 +98,7 @@ module _ {s : Bytes} {k i p : ℕ} where
   kind-wrong h z m l r e (WordFault.fifthVariable a b) = omega arith
   kind-wrong h z m l r e (WordFault.fifthArgument a b) = omega arith
 
-  pub argument-wrong : {n : ℕ} → IsArgument k i → Fit (wordAt s p) → WordFault s k i p n
+  pub argument-wrong : {n : ℕ} → IsArgument k i → Arguable (wordAt s p) → WordFault s k i p n
       → (isNameForm (wordAt s p) ≡ true) × (((12 < length (wordAt s p)) × (n ≡ 3)) ⊎ (NoVariable s (wordAt s p) × (n ≡ 5)))
   argument-wrong x f (WordFault.notVars a b c) = absurd (omega arith)
   argument-wrong x f (WordFault.notSym a b c) = absurd (omega arith)
