@@ -44,9 +44,9 @@ kind-le s p e = let w = part s p e in by (leb (e - p) 3 && all isDigit w && not 
     by true n = either (λ m. m ≤ 255) (leb n 255) (leb-true n 255) (λ h. zero-le)
     by false n = zero-le
 
-pub number-le : (s : Bytes) (p e : ℕ) → numberOf s p e ≤ 4294967295
+pub number-le : (n : ℕ) (s : Bytes) (p e : ℕ) → n ≡ numberOf s p e → n ≤ 4294967295
 unfolding numberOf
-number-le s p e = let w = part s p e in either (λ m. m ≤ 4294967295) (isNumber w) (λ h. number-found w h .1) (λ h. zero-le)
+number-le n s p e h = let w = part s p e in rw h (either (λ m. m ≤ 4294967295) (isNumber w) (λ k. number-found w k .1) (λ k. zero-le))
 
 -- where the sign of a fixed argument stands there is a byte
 pub sign-inside : (s : Bytes) (p : ℕ) → eqb (at s p) fixedSign ≡ true → p < length s

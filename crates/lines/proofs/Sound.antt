@@ -34,7 +34,7 @@ argument-sound s xs p e =
         → eqb (cond a 0 (cond d (cond (isNumber (part s (p + 1) e)) 0 2) (cond b (cond c 0 5) (nameFault s p e)))) 0 ≡ true
         → soundParameter (length xs) (cond a ignored (cond d (fixed (numberOf s (p + 1) e)) (names (indexOf s xs (part s p e))))) ≡ true
     by true d b c i j h = refl
-    by false true b c i j h = le-leb (numberOf s (p + 1) e) 4294967295 (number-le s (p + 1) e)
+    by false true b c i j h = le-leb (numberOf s (p + 1) e) 4294967295 (number-le _ s (p + 1) e refl)
     by false false true true i j h = j
     by false false true false i j h = absurd (false≢true h)
     by false false false c i j h = absurd (false≢true (sym i ∙ h))

@@ -1,6 +1,5 @@
 -- `lines::argument_of` meets its contract: `_`, the number behind the sign, or that of the variable found.
 use mathlib.Core.Path.{_≡_, sym, _∙_}
-use Prim.Native.Nat.{_+_}
 use native.Mathlib.Omega.{arith}
 use borrow.Author.Needs.{needs}
 use Rattle.form.specs.Scan.{part}
@@ -28,9 +27,7 @@ number-of-requires : tie.Need-number-of-requires
 number-of-requires c κs = search needs
 
 cast-t12 : tie.Need-cast-t12
-cast-t12 c =
-    let a = c .before .before .before .before .before .before .args in
-    omega (arith, c .number-of .ensures, number-le (a .s .now) (a .p + 1) (a .e))
+cast-t12 c = omega (arith, number-le _ _ _ _ (c .number-of .ensures))
 
 returns-2 : tie.Need-returns-2
 returns-2 c =
