@@ -10,16 +10,18 @@ use lib.Dec.{leb, eqb}
 use lib.ListN.{length, take, drop, set, length-append}
 use Rattle.laws.specs.Lists.{all}
 use Rattle.laws.proofs.Lists.{all-append, and-true-split, either}
-use Rattle.form.specs.Text.{Bytes, Span, isDigit}
+use Rattle.form.specs.Text.{Bytes, Span, isDigit, fixedSign}
 use Rattle.form.specs.Form.{sameWord}
 use Rattle.form.specs.Scan as Scan
-use Rattle.form.specs.Scan.{at, part, go, fail, value, kindOf, nextWord, wordEnd}
+use Rattle.form.specs.Scan.{at, part, go, fail, value, kindOf, isNumber, numberOf, nextWord, wordEnd}
 use Rattle.form.specs.Lines as Lines
 use Rattle.form.specs.Lines.{bytesAt, indexOf, wantWord, Arguments, argumentFault, argumentOf, argumentsFrom, noSymbolRead, kindFrom}
 use Rattle.meaning.specs.Events as Events
 use Rattle.meaning.specs.Events.{Parameter}
 use Rattle.meaning.specs.Meaning.{noSymbol}
+use Rattle.parsing.proofs.Scans.{inside-of}
 use Rattle.parsing.proofs.Words.{Gap, gap, byte-inside}
+use Rattle.parsing.proofs.Numerals.{number-found}
 use Rattle.text.specs.Steps.{stepOf}
 use Rattle.text.specs.declared.Step.{Step}
 use Rattle.table.specs.Tables.{parameterOf, symbolOf, nameOf, tableOf, viewSymbol, viewTable, spanOf, inside, Ready}
@@ -41,6 +43,14 @@ kind-le s p e = let w = part s p e in by (leb (e - p) 3 && all isDigit w && not 
     by : (b : Bool) (n : ℕ) → cond b (cond (leb n 255) n 0) 0 ≤ 255
     by true n = either (λ m. m ≤ 255) (leb n 255) (leb-true n 255) (λ h. zero-le)
     by false n = zero-le
+
+pub number-le : (n : ℕ) (s : Bytes) (p e : ℕ) → n ≡ numberOf s p e → n ≤ 4294967295
+unfolding numberOf
+number-le n s p e h = let w = part s p e in rw h (either (λ m. m ≤ 4294967295) (isNumber w) (λ k. number-found w k .1) (λ k. zero-le))
+
+-- where the sign of a fixed argument stands there is a byte
+pub sign-inside : (s : Bytes) (p : ℕ) → eqb (at s p) fixedSign ≡ true → p < length s
+sign-inside = inside-of (λ b. eqb b fixedSign) refl
 
 pub next-inside : (s : Bytes) (p : ℕ) → p ≤ length s → nextWord s p .place ≤ length s
 next-inside s p h = by (gap s p)

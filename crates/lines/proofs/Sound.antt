@@ -4,16 +4,16 @@ use mathlib.Core.Bool.{Bool, true, false, cond, false≢true}
 use mathlib.Core.List.{List, [], _∷_, _++_, append-nil}
 use Prim.Native.Nat.{ℕ, zero, suc, _+_, _≤_, _<_, zero-le}
 use native.Mathlib.Omega.{arith}
-use borrow.Author.Tests.{eqb-true}
+use borrow.Author.Tests.{eqb-true, le-leb}
 use lib.Dec.{eqb, ltb}
 use lib.ListN.{length, set, length-append}
 use Rattle.laws.specs.Lists.{all}
 use Rattle.laws.proofs.Lists.{all-more, either}
-use Rattle.meaning.specs.Events.{Parameter, ignored, names}
+use Rattle.meaning.specs.Events.{Parameter, ignored, names, fixed}
 use Rattle.meaning.specs.Book.{soundParameter}
-use Rattle.form.specs.Text.{Bytes, Span, ignoredWord}
+use Rattle.form.specs.Text.{Bytes, Span, ignoredWord, fixedSign}
 use Rattle.form.specs.Form.{sameWord}
-use Rattle.form.specs.Scan.{Step, go, fail, part, wordEnd, nextWord, nameFault, kindOf}
+use Rattle.form.specs.Scan.{Step, go, fail, at, part, wordEnd, nextWord, nameFault, kindOf, isNumber, numberOf}
 use Rattle.form.specs.Lines.{spanOf, indexOf, declareFault, Variables, variablesFrom, argumentFault, argumentOf, Arguments, argumentsFrom}
 use Rattle.form.specs.Lines.{wantWord, SymbolRead, noSymbolRead, kindFrom, Table, symbolFrom, withSymbol}
 use Rattle.table.specs.Tables.{tableOf, viewTable, inside, Ready}
@@ -21,22 +21,23 @@ use Rattle.table.specs.declared.Table as Tables
 use Rattle.table.proofs.Codes.{view-table, ready-symbol}
 use Rattle.lines.specs.declared.SymbolRead as Results
 use Rattle.lines.specs.Results.{symbolRead}
-use Rattle.lines.proofs.Args.{next-inside, want-inside, variables-length}
+use Rattle.lines.proofs.Args.{number-le, next-inside, want-inside, variables-length}
 use Rattle.lines.proofs.Known.{span-inside}
 use Rattle.lines.proofs.Gaps.{word-within, next-more}
 
--- a word that is read as an argument is ignored or a declared variable
+-- a word that is read as an argument is ignored, a number in range or a declared variable
 argument-sound : (s : Bytes) (xs : List Span) (p e : ℕ) → eqb (argumentFault s xs p e) 0 ≡ true → soundParameter (length xs) (argumentOf s xs p e) ≡ true
 argument-sound s xs p e =
-    by (sameWord (part s p e) ignoredWord) (eqb (nameFault s p e) 0) (ltb (indexOf s xs (part s p e)) (length xs)) refl refl
+    by (sameWord (part s p e) ignoredWord) (eqb (at s p) fixedSign) (eqb (nameFault s p e) 0) (ltb (indexOf s xs (part s p e)) (length xs)) refl refl
   where
-    by : (a b c : Bool) → eqb (nameFault s p e) 0 ≡ b → ltb (indexOf s xs (part s p e)) (length xs) ≡ c
-        → eqb (cond a 0 (cond b (cond c 0 5) (nameFault s p e))) 0 ≡ true
-        → soundParameter (length xs) (cond a ignored (names (indexOf s xs (part s p e)))) ≡ true
-    by true b c i j h = refl
-    by false true true i j h = j
-    by false true false i j h = absurd (false≢true h)
-    by false false c i j h = absurd (false≢true (sym i ∙ h))
+    by : (a d b c : Bool) → eqb (nameFault s p e) 0 ≡ b → ltb (indexOf s xs (part s p e)) (length xs) ≡ c
+        → eqb (cond a 0 (cond d (cond (isNumber (part s (p + 1) e)) 0 2) (cond b (cond c 0 5) (nameFault s p e)))) 0 ≡ true
+        → soundParameter (length xs) (cond a ignored (cond d (fixed (numberOf s (p + 1) e)) (names (indexOf s xs (part s p e))))) ≡ true
+    by true d b c i j h = refl
+    by false true b c i j h = le-leb (numberOf s (p + 1) e) 4294967295 (number-le _ s (p + 1) e refl)
+    by false false true true i j h = j
+    by false false true false i j h = absurd (false≢true h)
+    by false false false c i j h = absurd (false≢true (sym i ∙ h))
 
 -- the word behind p, where there is no fault, is inside the text
 next-word : (s : Bytes) (p : ℕ) → p ≤ length s → let q = nextWord s p .place in (q ≤ wordEnd s q) × (wordEnd s q ≤ length s)
@@ -100,7 +101,7 @@ variables-ready s xs h i =
       b,
     )
 
--- at most n parameters, each ignored or a declared variable
+-- at most n parameters, each ignored, a number in range or a declared variable
 record ArgumentsSound (s : Bytes) (variables n : ℕ) (a : Arguments) : Type 0 where
   pub few : length (a .parameters) ≤ n
   pub declared : all (soundParameter variables) (a .parameters) ≡ true

@@ -20,7 +20,9 @@ sub-if2 : tie.Need-sub-if2
 sub-if2 c = search needs
 
 returns-2 : tie.Need-returns-2
-returns-2 c = rw (number-at _ _ _ (c .before .if1 .left) (c .before .before .before .pre), lt-leb _ 10 (c .if2 .taken))
+returns-2 c =
+    let a = c .before .before .before .args in
+    rw (number-at _ _ _ (c .before .if1 .left) (c .before .before .before .pre), lt-leb (a .e - a .p) 10 (omega arith))
 
 all-digits-requires : tie.Need-all-digits-requires
 all-digits-requires c κs = search needs
