@@ -10,7 +10,7 @@ use Rattle.form.specs.Limits.{variableLimit, symbolLimit, parameterLimit
 use Rattle.form.specs.Text.{Bytes, symWord, matchWord, varsWord, ignoredWord, fixedSign}
 use Rattle.form.specs.Text.{Declarations, symbolOf, varsLine, Span, variableSpans, symbolSpans}
 use Rattle.form.specs.Form.{sameWord}
-use Rattle.form.specs.Scan.{Step, go, fail, at, part, wordEnd, nextWord, nameFault, kindOf, isNumber, numberOf}
+use Rattle.form.specs.Scan.{Step, go, fail, at, part, wordEnd, nextWord, nameFault, kindOf, isNumber, fixedNumber}
 
 -- the bytes of a span
 abbrev pub bytesAt : Bytes → Span → Bytes
@@ -75,7 +75,7 @@ argumentFault s xs p e =
 abbrev pub argumentOf : Bytes → List Span → (p e : ℕ) → Parameter
 argumentOf s xs p e =
     let v = names (indexOf s xs (part s p e)) in
-    let n = fixed (numberOf s (p + 1) e) in
+    let n = fixed (fixedNumber s (p + 1) e) in
     let h = cond (eqb (at s p) fixedSign) n v in
     cond (sameWord (part s p e) ignoredWord) ignored h
 

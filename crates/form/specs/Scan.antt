@@ -92,5 +92,5 @@ isNumber (b ∷ w) =
     leb (length (b ∷ w)) numberDigits && all isDigit (b ∷ w) && (eqb (length w) 0 || not (eqb b (code "0"))) && leb (value 0 (b ∷ w)) numberLimit
 
 -- its value, or 0 where the word from p to e is no such number
-unfoldable pub numberOf : Bytes → (p e : ℕ) → ℕ
-numberOf s p e = let w = part s p e in cond (isNumber w) (value 0 w) 0
+unfoldable pub fixedNumber : Bytes → (p e : ℕ) → ℕ
+fixedNumber s p e = let w = part s p e in cond (isNumber w) (value 0 w) 0

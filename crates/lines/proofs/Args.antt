@@ -13,7 +13,7 @@ use Rattle.laws.proofs.Lists.{all-append, and-true-split, either}
 use Rattle.form.specs.Text.{Bytes, Span, isDigit, fixedSign}
 use Rattle.form.specs.Form.{sameWord}
 use Rattle.form.specs.Scan as Scan
-use Rattle.form.specs.Scan.{at, part, go, fail, value, kindOf, isNumber, numberOf, nextWord, wordEnd}
+use Rattle.form.specs.Scan.{at, part, go, fail, value, kindOf, isNumber, fixedNumber, nextWord, wordEnd}
 use Rattle.form.specs.Lines as Lines
 use Rattle.form.specs.Lines.{bytesAt, indexOf, wantWord, Arguments, argumentFault, argumentOf, argumentsFrom, noSymbolRead, kindFrom}
 use Rattle.meaning.specs.Events as Events
@@ -44,8 +44,8 @@ kind-le s p e = let w = part s p e in by (leb (e - p) 3 && all isDigit w && not 
     by true n = either (λ m. m ≤ 255) (leb n 255) (leb-true n 255) (λ h. zero-le)
     by false n = zero-le
 
-pub number-le : (n : ℕ) (s : Bytes) (p e : ℕ) → n ≡ numberOf s p e → n ≤ 4294967295
-unfolding numberOf
+pub number-le : (n : ℕ) (s : Bytes) (p e : ℕ) → n ≡ fixedNumber s p e → n ≤ 4294967295
+unfolding fixedNumber
 number-le n s p e h = let w = part s p e in rw h (either (λ m. m ≤ 4294967295) (isNumber w) (λ k. number-found w k .1) (λ k. zero-le))
 
 -- where the sign of a fixed argument stands there is a byte

@@ -13,7 +13,7 @@ use Rattle.meaning.specs.Events.{Parameter, ignored, names, fixed}
 use Rattle.meaning.specs.Book.{soundParameter}
 use Rattle.form.specs.Text.{Bytes, Span, ignoredWord, fixedSign}
 use Rattle.form.specs.Form.{sameWord}
-use Rattle.form.specs.Scan.{Step, go, fail, at, part, wordEnd, nextWord, nameFault, kindOf, isNumber, numberOf}
+use Rattle.form.specs.Scan.{Step, go, fail, at, part, wordEnd, nextWord, nameFault, kindOf, isNumber, fixedNumber}
 use Rattle.form.specs.Lines.{spanOf, indexOf, declareFault, Variables, variablesFrom, argumentFault, argumentOf, Arguments, argumentsFrom}
 use Rattle.form.specs.Lines.{wantWord, SymbolRead, noSymbolRead, kindFrom, Table, symbolFrom, withSymbol}
 use Rattle.table.specs.Tables.{tableOf, viewTable, inside, Ready}
@@ -32,9 +32,9 @@ argument-sound s xs p e =
   where
     by : (a d b c : Bool) → eqb (nameFault s p e) 0 ≡ b → ltb (indexOf s xs (part s p e)) (length xs) ≡ c
         → eqb (cond a 0 (cond d (cond (isNumber (part s (p + 1) e)) 0 2) (cond b (cond c 0 5) (nameFault s p e)))) 0 ≡ true
-        → soundParameter (length xs) (cond a ignored (cond d (fixed (numberOf s (p + 1) e)) (names (indexOf s xs (part s p e))))) ≡ true
+        → soundParameter (length xs) (cond a ignored (cond d (fixed (fixedNumber s (p + 1) e)) (names (indexOf s xs (part s p e))))) ≡ true
     by true d b c i j h = refl
-    by false true b c i j h = le-leb (numberOf s (p + 1) e) 4294967295 (number-le _ s (p + 1) e refl)
+    by false true b c i j h = le-leb (fixedNumber s (p + 1) e) 4294967295 (number-le _ s (p + 1) e refl)
     by false false true true i j h = j
     by false false true false i j h = absurd (false≢true h)
     by false false false c i j h = absurd (false≢true (sym i ∙ h))

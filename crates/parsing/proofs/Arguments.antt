@@ -15,7 +15,7 @@ use Rattle.meaning.specs.Book.{soundParameter}
 use Rattle.form.specs.Limits.{numberLimit}
 use Rattle.form.specs.Text.{Bytes, space, lf, isDigit, isName, ignoredWord, fixedSign, decimal, Span, spaced, parameterWord}
 use Rattle.form.specs.Form.{sameWord, distinct}
-use Rattle.form.specs.Scan.{go, wordEnd, nextWord, value, isNumber, numberOf}
+use Rattle.form.specs.Scan.{go, wordEnd, nextWord, value, isNumber, fixedNumber}
 use Rattle.form.specs.Lines.{bytesAt, Arguments, argumentFault, argumentOf, argumentsFrom}
 use Rattle.parsing.proofs.Scans.{same-word}
 use Rattle.parsing.proofs.Words.{Word, word-end, word-part, isWord, Next, word-next, next-behind, next-inside, byte-inside, gap-ended}
@@ -37,7 +37,7 @@ parameterOf vs w =
 
 argument-of : {s : Bytes} {p : ℕ} {w rest : Bytes} → Word s p w rest → 1 ≤ length w → (xs : List Span)
     → argumentOf s xs p (wordEnd s p) ≡ parameterOf (map (bytesAt s) xs) w
-unfolding numberOf
+unfolding fixedNumber
 argument-of {s} h some xs =
     let (e, f) = signed-at h some in
     rw (word-part h, e, f, index-of s xs)

@@ -5,7 +5,7 @@ ghost use Prim.Native.Nat.{_≤_, _+_};
 ghost use lib.ListN.{length, drop};
 ghost use Rattle.laws.specs.Lists.{all};
 ghost use Rattle.form.specs.Text.{isDigit, isNameByte, numberDigits};
-ghost use Rattle.form.specs.Scan.{run, nameEnd, nameFault, part, value, kindOf, isNumber, numberOf};
+ghost use Rattle.form.specs.Scan.{run, nameEnd, nameFault, part, value, kindOf, isNumber, fixedNumber};
 
 // "1 to 12 bytes"
 pub const NAME_LIMIT: usize = 12;
@@ -125,7 +125,7 @@ pub fn is_number(s: &[u8], p: usize, e: usize) -> bool
 // A fixed number: the value of the word from p to e, or 0 where it is no number in range.
 pub fn number_of(s: &[u8], p: usize, e: usize) -> usize
     requires { ⌜ e ≤ length (now s) ⌝ }
-    ensures { λ r. ⌜ r ≡ numberOf (now (s .entry)) p e ⌝ }
+    ensures { λ r. ⌜ r ≡ fixedNumber (now (s .entry)) p e ⌝ }
 {
     if is_number(s, p, e) {
         return digits_value(s, p, e);

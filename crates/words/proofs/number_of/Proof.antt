@@ -1,7 +1,7 @@
--- `words::number_of` meets its contract: one return for each case of `numberOf`.
+-- `words::number_of` meets its contract: one return for each case of `fixedNumber`.
 use mathlib.Core.Path.{sym, _∙_}
 use borrow.Author.Needs.{needs}
-use Rattle.form.specs.Scan.{numberOf}
+use Rattle.form.specs.Scan.{fixedNumber}
 use Rattle.words.proofs.Numbers.{number-inside}
 use Rattle.words.proofs.number_of.Statement.{statement}
 use Rattle.words.proofs.number_of.Tie as tie
@@ -16,11 +16,11 @@ digits-value-requires c κs =
     (l, h, k, d)
 
 returns : tie.Need-returns
-unfolding numberOf
+unfolding fixedNumber
 returns c = rw (← c .before .before .is-number .ensures, c .before .if1 .taken) (c .digits-value .ensures)
 
 returns-2 : tie.Need-returns-2
-unfolding numberOf
+unfolding fixedNumber
 returns-2 c = rw (← c .before .is-number .ensures, c .if1 .left)
 
 pub number-of-spec : {M : Type 1} → statement M
