@@ -4,11 +4,11 @@ use mathlib.Core.Path.{_≡_, refl}
 use mathlib.Core.List.{map, map-append}
 use Rattle.laws.specs.Bits.{bit, join, meet, single}
 use Rattle.form.specs.Text.{decimal, header, text}
-use Rattle.form.specs.Scan.{spacesEnd, wordEnd, nameEnd, nextWord, nameFault, kindOf}
+use Rattle.form.specs.Scan.{spacesEnd, wordEnd, nameEnd, nextWord, nameFault, kindOf, fixedNumber}
 use Rattle.form.specs.Lines.{wantWord, kindFrom, symbolFrom, linesOf}
 use Rattle.form.specs.Parse.{itemOf, nameAtom, closed, alternationFrom, patternFrom}
 use Rattle.form.specs.Reading.{lastLine, matchFrom, readingOf}
-use Rattle.form.specs.Samples.{outcome, wanted, first, full, variables, lines, patterns, many, deep, long, table}
+use Rattle.form.specs.Samples.{outcome, wanted, first, full, fixedNumbers, variables, lines, patterns, many, deep, long, table}
 
 first-read : map outcome first ≡ map wanted first
 unfolding bit join meet single decimal header text spacesEnd wordEnd nameEnd nextWord nameFault kindOf wantWord kindFrom symbolFrom linesOf itemOf
@@ -19,6 +19,11 @@ full-read : map outcome full ≡ map wanted full
 unfolding bit join meet single decimal header text spacesEnd wordEnd nameEnd nextWord nameFault kindOf wantWord kindFrom symbolFrom linesOf itemOf
     nameAtom closed alternationFrom patternFrom lastLine matchFrom readingOf full
 full-read = refl
+
+fixedNumbers-read : map outcome fixedNumbers ≡ map wanted fixedNumbers
+unfolding bit join meet single decimal header text spacesEnd wordEnd nameEnd nextWord nameFault kindOf fixedNumber wantWord kindFrom symbolFrom linesOf itemOf
+    nameAtom closed alternationFrom patternFrom lastLine matchFrom readingOf fixedNumbers
+fixedNumbers-read = refl
 
 variables-read : map outcome variables ≡ map wanted variables
 unfolding bit join meet single decimal header text spacesEnd wordEnd nameEnd nextWord nameFault kindOf wantWord kindFrom symbolFrom linesOf itemOf
@@ -51,4 +56,4 @@ unfolding bit join meet single decimal header text spacesEnd wordEnd nameEnd nex
 long-read = refl
 
 pub sampled : map outcome table ≡ map wanted table
-sampled = simp (map-append, first-read, full-read, variables-read, lines-read, patterns-read, many-read, deep-read, long-read)
+sampled = simp (map-append, first-read, full-read, fixedNumbers-read, variables-read, lines-read, patterns-read, many-read, deep-read, long-read)

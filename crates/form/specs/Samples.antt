@@ -7,7 +7,7 @@ use Prim.Native.String.{String}
 use lib.ListN.{replicate}
 use Rattle.laws.specs.Lists.{gather}
 use Rattle.pattern.specs.Regex.{Regex, lit, cat, alt, star, plus, opt}
-use Rattle.meaning.specs.Events.{Parameter, ignored, names}
+use Rattle.meaning.specs.Events.{Parameter, ignored, names, fixed}
 use Rattle.form.specs.Text.{Bytes, ascii, space, SymbolLine, Declarations, symbolOf, Span, spans, text}
 use Rattle.form.specs.Form.{sameWord, symbolNames}
 use Rattle.form.specs.Scan.{fail}
@@ -146,6 +146,38 @@ full =
     })
     ∷ []
 
+-- document 02, change 1: "An argument word may be `=` and a number 0 to 4294967295 without extra leading zeros; anything else after `=` is answer 2."
+unfoldable pub fixedNumbers : List Sample
+fixedNumbers =
+    accepts (ascii "vars s\nsym load 1 =3 s\nsym a 2 =0 =4294967295 _ =10\nmatch a load\n")
+    (record {
+      declared = record {
+        variables = ascii "s" ∷ [];
+        symbols = line "load" 1 (fixed 3 ∷ names 0 ∷ []) ∷ line "a" 2 (fixed 0 ∷ fixed 4294967295 ∷ ignored ∷ fixed 10 ∷ []) ∷ [];
+      };
+      written = ascii "a load";
+      variables = span 5 1 ∷ [];
+      symbols = span 11 4 ∷ span 27 1 ∷ [];
+      tree = cat (lit 1) (lit 0);
+    })
+    ∷ refuses (ascii "vars\nsym a 1 =\n") 2 13
+    ∷ refuses (ascii "vars\nsym a 1 =x\n") 2 13
+    ∷ refuses (ascii "vars\nsym a 1 =01\n") 2 13
+    ∷ refuses (ascii "vars\nsym a 1 =00\n") 2 13
+    ∷ refuses (ascii "vars\nsym a 1 =3x\n") 2 13
+    ∷ refuses (ascii "vars\nsym a 1 =+1\n") 2 13
+    ∷ refuses (ascii "vars\nsym a 1 =4294967296\n") 2 13
+    ∷ refuses (ascii "vars\nsym a 1 =42949672950\n") 2 13
+    ∷ refuses (ascii "vars\nsym a 1 =" ++ (times 3000 "9" ++ ascii "\n")) 2 13
+    -- a fifth argument; a fixed number binds nothing; `=` elsewhere
+    ∷ refuses (ascii "vars\nsym a 1 =1 =2 =3 =4 =5\n") 3 25
+    ∷ refuses (ascii "vars d\nsym a 1 =0\nmatch a\n") 8 24
+    ∷ refuses (ascii "vars =3\n") 2 5
+    ∷ refuses (ascii "vars\nsym =3 1\n") 2 9
+    ∷ refuses (ascii "vars\nsym a =3\n") 2 11
+    ∷ refuses (oneText (ascii "a=3")) 6 20
+    ∷ []
+
 -- the line of variables
 unfoldable pub variables : List Sample
 variables =
@@ -267,4 +299,4 @@ long =
     ∷ []
 
 abbrev pub table : List Sample
-table = first ++ (full ++ (variables ++ (lines ++ (patterns ++ (many ++ (deep ++ long))))))
+table = first ++ (full ++ (fixedNumbers ++ (variables ++ (lines ++ (patterns ++ (many ++ (deep ++ long)))))))

@@ -1,10 +1,10 @@
--- The starred roasts of document 01 that are event runs: for each a tracematch, the events sent, and what the watch
--- answers to each. Books are written as tracematches. Computed: ../proofs/Anchors.antt.
+-- The starred roasts of document 01 that are event runs, and two of ours for document 02's change 1: for each a tracematch, the events sent, and
+-- what the watch answers to each. Books are written as tracematches. Computed: ../proofs/Anchors.antt.
 use mathlib.Core.Bool.{true, false, cond}
 use mathlib.Core.List.{List, [], _∷_}
 use Prim.Native.Nat.{ℕ}
 use Rattle.pattern.specs.Regex.{Regex, lit, cat, star, plus, opt}
-use Rattle.meaning.specs.Events.{Parameter, ignored, names, Symbol, Event, Valuation}
+use Rattle.meaning.specs.Events.{Parameter, ignored, names, fixed, Symbol, Event, Valuation}
 use Rattle.meaning.specs.Meaning.{Tracematch}
 use Rattle.meaning.specs.Book.{Book}
 use Rattle.meaning.specs.Labels.{Held, heldAt, bound, free, newHeld}
@@ -137,9 +137,35 @@ sixExcluded =
       expected = none ∷ none ∷ none ∷ none ∷ none ∷ none ∷ none ∷ noRoom ∷ none ∷ noRoom ∷ [];
     }
 
+-- "The symbol's constraint is false where that argument differs.": load 1 =3 d, drop 2 =3, clean 3 =3, `match load drop`
+unfoldable pub fixedPlaces : Case
+fixedPlaces =
+    record {
+      tracematch = record {
+        variables = 1;
+        symbols = symbol 1 (fixed 3 ∷ d ∷ []) ∷ symbol 2 (fixed 3 ∷ []) ∷ symbol 3 (fixed 3 ∷ []) ∷ [];
+        pattern = cat (lit 0) (lit 1);
+      };
+      events = load 3 7 ∷ load 4 8 ∷ clean 4 ∷ dropped 4 ∷ dropped 3 ∷ load 3 9 ∷ clean 3 ∷ dropped 3 ∷ [];
+      expected = none ∷ none ∷ none ∷ none ∷ accepted ((7 ∷ []) ∷ []) ∷ none ∷ none ∷ none ∷ [];
+    }
+
+-- B2 with fill 1 d s =1: an event with another argument there excludes nothing
+unfoldable pub otherArgument : Case
+otherArgument =
+    record {
+      tracematch = record {
+        variables = 2;
+        symbols = symbol 5 (d ∷ []) ∷ symbol 1 (d ∷ s ∷ fixed 1 ∷ []) ∷ symbol 6 (d ∷ s ∷ []) ∷ [];
+        pattern = cat (lit 0) (lit 2);
+      };
+      events = opened 1 ∷ event 1 (1 ∷ 7 ∷ 0 ∷ []) ∷ seal 1 7 ∷ event 1 (1 ∷ 8 ∷ 1 ∷ []) ∷ seal 1 8 ∷ [];
+      expected = none ∷ none ∷ row17 ∷ none ∷ none ∷ [];
+    }
+
 unfoldable pub table : List Case
-unfolding listing unknownKind overlapping oneRow excluded sixExcluded
-table = listing ∷ unknownKind ∷ overlapping ∷ oneRow ∷ excluded ∷ sixExcluded ∷ []
+unfolding listing unknownKind overlapping oneRow excluded sixExcluded fixedPlaces otherArgument
+table = listing ∷ unknownKind ∷ overlapping ∷ oneRow ∷ excluded ∷ sixExcluded ∷ fixedPlaces ∷ otherArgument ∷ []
 
 -- the calls of such a list of events, an event accepted where there is room
 abbrev pub callsOf : Book → List Held → List Event → List Call
