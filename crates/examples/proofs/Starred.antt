@@ -17,7 +17,7 @@ use Rattle.meaning.specs.Room.{setRoom, room}
 use Rattle.meaning.specs.Rows.{rows, leavesFree}
 use Rattle.meaning.specs.Sound.{soundPiece, soundHeld, soundState}
 use Rattle.form.specs.Text.{ascii, isBytes}
-use Rattle.form.specs.Scan.{spacesEnd, wordEnd, nameEnd, nextWord, nameFault, kindOf}
+use Rattle.form.specs.Scan.{spacesEnd, wordEnd, nameEnd, nextWord, nameFault, kindOf, fixedNumber}
 use Rattle.form.specs.Lines.{wantWord, kindFrom, symbolFrom, linesOf}
 use Rattle.form.specs.Parse.{itemOf, nameAtom, closed, alternationFrom, patternFrom}
 use Rattle.form.specs.Reading.{lastLine, matchFrom, readingOf}
@@ -43,7 +43,7 @@ use Rattle.examples.specs.Starred.{Line, Entry, runs, late, reads, Back,
 
 pub computed : map outcome table ≡ map wanted table
 unfolding bit join meet single front splice pad matches constraintOf soundBook soundSymbol compareDisjuncts skipBy sources stepSet skipSet newLabel
-    newHeld setRoom room rows leavesFree soundPiece soundHeld soundState spacesEnd wordEnd nameEnd nextWord nameFault kindOf wantWord kindFrom
+    newHeld setRoom room rows leavesFree soundPiece soundHeld soundState spacesEnd wordEnd nameEnd nextWord nameFault kindOf fixedNumber wantWord kindFrom
     symbolFrom linesOf itemOf nameAtom closed alternationFrom patternFrom lastLine matchFrom readingOf symbolOf tableOf viewSymbol wordAt argumentsIn
     isRecord eventIn viewSlot slotOf viewDisjunct disjunctOf answerOf readingFor bookFor emptyBook viewBook stateOf heldFirst viewState symbolCounts
     bookCounts bookSound slotCounts stateCounts stateSound wordBytes rowBytes bytesOf freshState rowsBy stateBy leavesFreeBy roomBy unsound outOfForm tooMany
