@@ -205,7 +205,8 @@ module _ (s : Bytes) where
   eight = rw (answer-number s) (Accepted.eight s)
 
   -- every field of the book from the declarations and the tree themselves, every array with its padding: "one bit to a position", positions from 1, an
-  -- argument place with its variable's number, ignored or with its fixed number; the names are `book-names`. What the masks say of words is `positions` (crate pattern).
+  -- argument place with its variable's number, ignored or with its fixed number; the names are `book-names`. What the masks say of words is
+  -- `positions` (crate pattern).
   pub held : (d : Declarations) (r : Regex) → Form s d r → let b = reading s .book in
       (b .variables ≡ length (d .variables)) × (b .symbols ≡ length (d .symbols))
       × (b .table ≡ pad 16 (record { kind = 0; count = 0; parameters = replicate 4 (record { tag = 0; number = 0 }) }) (map lined (d .symbols)))

@@ -168,10 +168,11 @@ module _ (y : Symbol) (e : Event) (few : y .count ≤ 4) where
         let d : Demand = record { variable = parameterAt y i .number; value = getD (e .args) i 0 } in
         let a : map viewDemand (take (m + 1) (set l m d)) ≡ map viewDemand (take m l) ++ (viewDemand d ∷ []) =
         rw (add-one m, take-suc-set l m d (omega arith), map-append) in
+        let b = ap (λ p. Events.demandOf p (getD (e .args) i 0)) (view-named (parameterAt y i) n) in
         record {
           few = omega arith;
           long = length-set l m d ∙ g .long;
-          whole = rw (a, append-assoc) (ap (λ r. map viewDemand (take m l) ++ r) (sym (rest-next _ (ap (λ p. Events.demandOf p (getD (e .args) i 0)) (view-named _ n)))) ∙ g .whole);
+          whole = rw (a, append-assoc) (ap (λ r. map viewDemand (take m l) ++ r) (sym (rest-next _ b)) ∙ g .whole);
         }
 
   -- when no place is left the demands are gathered, and they are ready where the places are sound

@@ -86,7 +86,8 @@ symbol-words : (v : ℕ) (y : Symbol) → (symbolSound v y ≡ true)
     ↔ ((1 ≤ y .kind) × (y .kind ≤ 255) × (y .count ≤ 4)
     × ((p : Parameter) → List·Memᴰ p (take (y .count) (y .parameters)) → SoundPlace v p))
 symbol-words v y =
-    let ps = every (λ (p : Parameter). leb (p .tag) 2 && soundParameter v (viewParameter p)) (SoundPlace v) (parameter-words v) (take (y .count) (y .parameters)) in (
+    let test : Parameter → Bool = λ p. leb (p .tag) 2 && soundParameter v (viewParameter p) in
+    let ps = every test (SoundPlace v) (parameter-words v) (take (y .count) (y .parameters)) in (
       λ h. let few = within (y .count) 4 (Parts.symbol-many v y) h in
           let (k, a) = and-true-split (leb 1 (y .kind) && leb (y .kind) 255) _ (sym (Parts.symbol-parts v y few) ∙ h) in
           let (i, j) = and-true-split (leb 1 (y .kind)) (leb (y .kind) 255) k in

@@ -1,5 +1,6 @@
--- The table of the starred roasts of document 01 and some of our own, those of document 02's change 1 among them, as bytes: texts with the records sent under them and the lines that
--- come back, and texts with the number and place that their reading gets. The theorems about the whole table are in ../proofs/Starred.antt.
+-- The table of the starred roasts of document 01 and some of our own, those of document 02's change 1 among them, as bytes: texts with the records
+-- sent under them and the lines that come back, and texts with the number and place that their reading gets. The theorems about the whole table
+-- are in ../proofs/Starred.antt.
 use mathlib.Core.List.{List, [], _∷_, _++_, map}
 use mathlib.Core.Bool.{cond}
 use Prim.Native.Nat.{ℕ, suc, _+_, _-_, _/_, _%_}

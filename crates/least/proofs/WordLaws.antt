@@ -178,7 +178,8 @@ module _ {s : Bytes} {k i p : ℕ} (v : Word s k i p) (xs : List Span) where
   unfolding isShort isAmong
   arguing =
       rw (name-number v)
-      (by (sameWord (wordAt s p) ignoredWord) (eqb (at s p) fixedSign) (isNumber behind) (isNameForm (wordAt s p)) isShort isAmong refl refl refl refl refl refl)
+      (by (sameWord (wordAt s p) ignoredWord) (eqb (at s p) fixedSign) (isNumber behind) (isNameForm (wordAt s p)) isShort isAmong
+      refl refl refl refl refl refl)
     where
       behind : Bytes
       behind = part s (p + 1) (wordEnd s p)

@@ -220,7 +220,8 @@ demand-words (names v ∷ ps) (x ∷ xs) d =
       λ (i, h, k, a, b). back (ih .1) i h k a b,
     )
   where
-    found : (List·Memᴰ d (demandsOf ps xs) → Asked ps xs d) → List·Memᴰ d (record { variable = v; value = x } ∷ demandsOf ps xs) → Asked (names v ∷ ps) (x ∷ xs) d
+    found : (List·Memᴰ d (demandsOf ps xs) → Asked ps xs d) → List·Memᴰ d (record { variable = v; value = x } ∷ demandsOf ps xs)
+        → Asked (names v ∷ ps) (x ∷ xs) d
     found f (List·Memᴰ·head e) = (0, omega arith, omega arith, sym (ap (λ c. names (c .variable)) e), sym (ap (λ c. c .value) e))
     found f (List·Memᴰ·tail m) = let (i, h, k, a, b) = f m in (suc i, omega (arith, h), omega (arith, k), a, b)
 

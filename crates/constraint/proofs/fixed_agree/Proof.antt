@@ -71,7 +71,8 @@ loop-less c = search needs
 loop-again : tie.Need-loop-again Inv-loop μ-loop
 loop-again c =
     let t = c .before .before .before .before in
-    (omega arith, ⊎-elim (λ w. next t true (agrees-at (place t) (given t) (w .2 .left))) (λ w. next t true (unfixed (place t) (given t) (w .left))) (c .if1 .came))
+    let agrees = ⊎-elim (λ w. agrees-at (place t) (given t) (w .2 .left)) (λ w. unfixed (place t) (given t) (w .left)) (c .if1 .came) in
+    (omega arith, next t true agrees)
 
 returns-2 : tie.Need-returns-2 Inv-loop μ-loop
 returns-2 c =
