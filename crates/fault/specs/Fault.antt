@@ -1,6 +1,7 @@
 -- `Fault s q n`: the text s has the fault n (one of `faultNumbers`) at place q, by one sentence of document 01 ("The book"; "What a call
 -- hands back", Reading) or of document 02 (change 1) for each constructor. `Least`: "the earliest place; at one place the smaller number". "A book is
--- ASCII text" has none of its own: a word or token with a byte from 128 on is one of notVars, notSym, noName, noKind, noArgument, noNumber, misplaced, or stands in excess.
+-- ASCII text" has none of its own: a word or token with a byte from 128 on is one of notVars, notSym, noName, noKind, noArgument, noNumber,
+-- misplaced, or stands in excess.
 use mathlib.Core.Path.{_≡_}
 use mathlib.Core.Bool.{Bool, true, false, cond, _&&_}
 use mathlib.Core.List.{List, [], _∷_, _++_}
