@@ -13,13 +13,13 @@ use Rattle.laws.specs.Lists.{any, all, keep}
 use Rattle.laws.proofs.Lists.{and-true-split, and-swap, and-front, eqb-swap, any-map, all-map, any-keep, any-and, any-agree, all-at, all-of}
 use Rattle.laws.proofs.Order.{compare-order}
 use Rattle.laws.proofs.Sets.{any-insert}
-use Rattle.meaning.specs.Events.{Parameter, ignored, names, fixed, Symbol, Event, Demand, Constraint, never, demands, demandsOf}
+use Rattle.meaning.specs.Events.{Symbol, Event, Demand, Constraint, never, demands}
 use Rattle.meaning.specs.Events.{constraintOf, Valuation, agrees, satisfies}
 use Rattle.meaning.specs.Book.{soundParameter}
 use Rattle.meaning.specs.Labels.{Entry, bound, free, Disjunct, freeDisjunct, entryOf, isFree, admits, bind, meetsAll, metAll, meets, met}
 use Rattle.meaning.specs.Labels.{skipOne, excluding, exclude}
 use Rattle.meaning.specs.Rows.{valuationOf}
-use Rattle.meaning.proofs.Holds.{constraint-either}
+use Rattle.meaning.proofs.Holds.{demands-within, constraint-either}
 
 -- every value is admitted by its entry
 abbrev pub fits : Valuation → Disjunct → Bool
@@ -33,17 +33,9 @@ abbrev pub inRange : ℕ → Constraint → Bool
 inRange n never = true
 inRange n (demands ds) = all (λ d. ltb (d .variable) n) ds
 
-parameters-inRange : (n : ℕ) (ps : List Parameter) (xs : List ℕ) → all (soundParameter n) ps ≡ true → all (λ d. ltb (d .variable) n) (demandsOf ps xs) ≡ true
-parameters-inRange n [] xs h = refl
-parameters-inRange n (p ∷ ps) [] h = refl
-parameters-inRange n (ignored ∷ ps) (x ∷ xs) h = parameters-inRange n ps xs h
-parameters-inRange n (names v ∷ ps) (x ∷ xs) h =
-    let hs = and-true-split (ltb v n) (all (soundParameter n) ps) h in ap₂ _&&_ (hs .0) (parameters-inRange n ps xs (hs .1))
-parameters-inRange n (fixed m ∷ ps) (x ∷ xs) h = parameters-inRange n ps xs (and-true-split (soundParameter n (fixed m)) (all (soundParameter n) ps) h .1)
-
 -- a symbol over declared variables demands values of those only
 pub constraint-inRange : (n : ℕ) (s : Symbol) (e : Event) → all (soundParameter n) (s .parameters) ≡ true → inRange n (constraintOf s e) ≡ true
-constraint-inRange n s e h = constraint-either (λ c. inRange n c ≡ true) s e refl (λ _. parameters-inRange n (s .parameters) (e .args) h)
+constraint-inRange n s e h = constraint-either (λ c. inRange n c ≡ true) s e refl (λ _. demands-within n (s .parameters) (e .args) h)
 
 metAll-length : (D : Disjunct) (ds : List Demand) → length (metAll D ds) ≡ length D
 metAll-length D [] = refl

@@ -9,13 +9,14 @@ use native.Mathlib.Nat.{sub-zero}
 use native.Mathlib.Decide.{ℕ-discrete}
 use native.Mathlib.Omega.{arith}
 use borrow.Author.Tests.{leb-true, eqb-true, eqb-false, eq-eqb, ne-eqb, not-true, not-false}
-use lib.Dec.{eqb, leb, ltb}
+use lib.Dec.{eqb, leb}
 use lib.ListN.{length, take, drop, getD, set, length-map, length-set}
 use lib.Seq.{length-take-le, take-suc, take-suc-set, getD-set-same, getD-set-other, slice, slice-cons}
 use Rattle.laws.specs.Lists.{all}
 use Rattle.laws.proofs.Lists.{and-true-split, all-taken}
 use Rattle.meaning.specs.Events as Events
 use Rattle.meaning.specs.Book.{soundParameter}
+use Rattle.meaning.proofs.Holds.{demands-within}
 use Rattle.table.specs.declared.Parameter.{Parameter}
 use Rattle.table.specs.declared.Symbol.{Symbol}
 use Rattle.table.specs.Tables.{viewParameter, viewSymbol}
@@ -37,21 +38,6 @@ matches-counts y e l h m k =
     let a : length (map viewParameter t) ≡ y .count = length-map t viewParameter ∙ length-take-le (y .count) (y .parameters) (omega arith) in
     let b : length (take (e .count) (e .args)) ≡ e .count = length-take-le (e .count) (e .args) (omega arith) in
     rw (a, b)
-
--- sound places demand something only of the variables that there are
-demand-within : (k : ℕ) (p : Events.Parameter) (x : ℕ) (r : List Events.Demand) → soundParameter k p ≡ true → all (λ d. ltb (d .variable) k) r ≡ true
-    → all (λ d. ltb (d .variable) k) (Events.demandOf p x ++ r) ≡ true
-demand-within k Events.Parameter.ignored x r s h = h
-demand-within k (Events.Parameter.names v) x r s h = ap₂ _&&_ s h
-demand-within k (Events.Parameter.fixed n) x r s h = h
-
-demands-within : (k : ℕ) (ps : List Events.Parameter) (xs : List ℕ) → all (soundParameter k) ps ≡ true
-    → all (λ d. ltb (d .variable) k) (Events.demandsOf ps xs) ≡ true
-demands-within k [] xs h = refl
-demands-within k (p ∷ ps) [] h = refl
-demands-within k (p ∷ ps) (x ∷ xs) h =
-    let s = and-true-split (soundParameter k p) (all (soundParameter k) ps) h in
-    demand-within k p x (Events.demandsOf ps xs) (s .0) (demands-within k ps xs (s .1))
 
 -- what the tests of the code say of two demands
 pub unequal : (d x : Events.Demand) → x .variable ≡ d .variable → not (eqb (x .value) (d .value)) ≡ true → Events.compatible d x ≡ false

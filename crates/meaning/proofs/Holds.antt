@@ -2,17 +2,18 @@
 -- false) says of a valuation what the declarative `holds` says of it. A wrong `compatible`, `demandsOf` or `constraintOf` is refused here.
 use mathlib.Core.Path.{_≡_, refl, sym, ap, ap₂, subst, _∙_}
 use mathlib.Core.Bool.{Bool, true, false, cond, not, _&&_, _||_, false≢true}
-use mathlib.Core.List.{List, [], _∷_, List·Memᴰ, List·Memᴰ·head, List·Memᴰ·tail, List·Memᴰ·not-nil}
+use mathlib.Core.List.{List, [], _∷_, _++_, List·Memᴰ, List·Memᴰ·head, List·Memᴰ·tail, List·Memᴰ·not-nil}
 use mathlib.Core.Logic.{_↔_, _⊎_, inl, inr}
 use Prim.Native.Nat.{ℕ, zero, suc, _<_, _^_}
 use native.Mathlib.Omega.{arith}
-use lib.Dec.{eqb}
+use lib.Dec.{eqb, ltb}
 use lib.ListN.{length, getD}
 use borrow.Author.Tests.{eqb-true, eq-eqb, ne-eqb, ltb-true, lt-ltb}
 use Rattle.laws.specs.Lists.{all}
 use Rattle.laws.proofs.Lists.{same-test, all-of, all-at, any-found, any-of, and-true-split}
 use Rattle.meaning.specs.Events.{Parameter, ignored, names, fixed, Symbol, Event, Demand, Constraint, never, demands, matches}
-use Rattle.meaning.specs.Events.{demandsOf, compatible, consistent, fixedAt, fixedAll, constraintOf}
+use Rattle.meaning.specs.Events.{demandOf, demandsOf, compatible, consistent, fixedAt, fixedAll, constraintOf}
+use Rattle.meaning.specs.Book.{soundParameter}
 use Rattle.meaning.specs.Events.{Valuation, agrees, satisfies, equalAt, equalAll, holds, concerns, word32, isValuation}
 
 -- demands that one valuation meets are not unequal on a variable
@@ -83,6 +84,20 @@ holds-satisfies s e σ =
     go true true h = refl
     go true false h = same-test (all (agrees σ) ds) false (λ g. absurd (false≢true (h g))) (λ g. absurd (false≢true g))
     go false b h = refl
+
+-- sound places demand something only of the variables that there are
+pub demands-within : (n : ℕ) (ps : List Parameter) (xs : List ℕ) → all (soundParameter n) ps ≡ true
+    → all (λ d. ltb (d .variable) n) (demandsOf ps xs) ≡ true
+demands-within n [] xs h = refl
+demands-within n (p ∷ ps) [] h = refl
+demands-within n (p ∷ ps) (x ∷ xs) h =
+    let (a, b) = and-true-split (soundParameter n p) (all (soundParameter n) ps) h in first p (demandsOf ps xs) a (demands-within n ps xs b)
+  where
+    first : (p : Parameter) (r : List Demand) → soundParameter n p ≡ true → all (λ d. ltb (d .variable) n) r ≡ true
+        → all (λ d. ltb (d .variable) n) (demandOf p x ++ r) ≡ true
+    first ignored r a b = b
+    first (names v) r a b = ap₂ _&&_ a b
+    first (fixed m) r a b = b
 
 -- what is true of the false constraint, and of the demands where the symbol matches, is true of the constraint
 pub constraint-either : (P : Constraint → Type 0) (s : Symbol) (e : Event) → P never
