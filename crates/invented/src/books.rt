@@ -286,10 +286,10 @@ fn symbol(book: u64, w: usize) -> u32 {
 
 // A place without a variable: ignored, or a number. No place is taken from a variable, so that no fewer books bind all of theirs.
 fn unbound(book: u64, w: usize) -> u32 {
-    if draw(book, FIXED + w, FIXED_IN) != 0 {
+    if draw(book, FIXED + w % ENTRIES, FIXED_IN) != 0 {
         return 0;
     }
-    cells::FIXED + draw(book, NUMBERS + w, NUMBER_COUNT) % NUMBER_COUNT
+    cells::FIXED + draw(book, NUMBERS + w % ENTRIES, NUMBER_COUNT) % NUMBER_COUNT
 }
 
 fn symbol_count(book: u64) -> u32 {
