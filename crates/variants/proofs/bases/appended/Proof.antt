@@ -1,10 +1,10 @@
--- `variants::bases::copied` is safe and ends: the turns are counted.
+-- `variants::bases::appended` is safe and ends: the turns are counted.
 use mathlib.Core.Path.{_≡_}
 use Prim.Native.Nat.{_-_}
 use lib.ListN.{length}
 use borrow.Author.Needs.{needs}
-use Rattle.variants.proofs.bases.copied.Statement.{statement}
-use Rattle.variants.proofs.bases.copied.Tie as tie
+use Rattle.variants.proofs.bases.appended.Statement.{statement}
+use Rattle.variants.proofs.bases.appended.Tie as tie
 
 abbrev Inv-loop : tie.InvT-loop
 Inv-loop from text₀ n₀ i₀ text n i = length text ≡ length text₀
@@ -36,8 +36,8 @@ same-length c = search needs
 returns : tie.Need-returns Inv-loop μ-loop
 returns c = search needs
 
-pub copied-spec : {M : Type 1} → statement M
-copied-spec =
+pub appended-spec : {M : Type 1} → statement M
+appended-spec =
     tie.close
     (tie.spec
     Inv-loop
