@@ -7,10 +7,10 @@ use Rattle.variants.proofs.bases.appended.Statement.{statement}
 use Rattle.variants.proofs.bases.appended.Tie as tie
 
 abbrev Inv-loop : tie.InvT-loop
-Inv-loop from text₀ n₀ i₀ text n i = length text ≡ length text₀
+Inv-loop from text₀ k n₀ i₀ text n i = length text ≡ length text₀
 
 abbrev μ-loop : tie.MeasureT-loop
-μ-loop from text₀ n₀ i₀ text n i = length from - i
+μ-loop from text₀ k n₀ i₀ text n i = length from - i
 
 loop-holds : tie.Need-loop-holds Inv-loop μ-loop
 loop-holds c = search needs
