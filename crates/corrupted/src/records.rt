@@ -84,7 +84,7 @@ fn beyond(count: u8, y: u64) -> usize {
 fn misformed(bytes: [u8; RECORD_ROOM], kind: u32, x: u64, y: u64) -> [u8; RECORD_ROOM] {
     let mut r = bytes;
     let more = 1 + (x % 255) as u8;
-    let i = beyond(r[1], y);
+    let i = beyond(r[1], y) % RECORD;
     match kind {
         4 => {
             r[0] = 0;
