@@ -227,7 +227,8 @@ fn parameters_alike(y: Symbol, work: &[u32], number: u32) -> bool {
     r
 }
 
-// A difference, if there have not been many: what the two readers answer (where they agree it is a name that differs), and the text.
+// A difference, if there have not been many: what the two readers answer (where they agree it is a name that differs, or what was declared
+// of it), and the text.
 fn told(text: &[u8], number: usize, place: usize, v: Verdict, before: u32) {
     if PRINTED <= before {
         return;

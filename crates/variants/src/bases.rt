@@ -89,13 +89,20 @@ pub fn base(k: usize, text: &mut [u8]) -> usize {
             text,
         ),
         8 => copied(
-            b"vars d s\nsym a 1 =0 d\nsym b 2 =4294967295 s =10\nsym c 3 =3\nsym e 255 _ =429496729 d =99\nmatch (a|e) c* b\n",
-            text,
-        ),
-        9 => copied(b"vars\nsym a 1 =3\nmatch a\n", text),
-        _ => copied(
             b"vars a b c e\nsym p 1 a b\nsym q 2 c e\nsym r 3 b c\nsym s 4 e a\nmatch (p q|q p|(r s)+|s+ r)p?((r|q))+\n",
             text,
         ),
+        _ => fixed(k, text),
     }
+}
+
+// Those with fixed numbers: of all sizes beside the other arguments, and one alone.
+fn fixed(k: usize, text: &mut [u8]) -> usize {
+    if k == 9 {
+        return copied(
+            b"vars d dd\nsym a 1 =0 dd\nsym b 2 =4294967295 d =10\nsym c 3 =3\nsym e 255 dd =429496729 _ =99\nmatch (a|e) c* b\n",
+            text,
+        );
+    }
+    copied(b"vars\nsym a 1 =3\nmatch a\n", text)
 }
