@@ -4,9 +4,9 @@
 use record::RECORD;
 
 // An entry. Entry 0: the count of variables at COUNT, parameters 1 to 4, the largest value, how many valuations there are. A symbol or an
-// event: its kind, its count, its parameters (0 ignored, v + 1 variable v) or arguments; of an event also the answer to its record (0
-// accepted, MARKED more where a byte of it is to be left out from then on), and the place of its rows, with SHORT more where the record
-// lacks a byte.
+// event: its kind, its count, its parameters (0 ignored, v + 1 variable v, FIXED + n the number n) or arguments; of an event also the
+// answer to its record (0 accepted, MARKED more where a byte of it is to be left out from then on), and the place of its rows, with SHORT
+// more where the record lacks a byte.
 pub const ENTRY_WORDS: usize = 8;
 
 pub const ENTRIES: usize = 64;
@@ -20,6 +20,8 @@ pub const PARAMETER: usize = 2;
 pub const ANSWER: usize = 6;
 
 pub const ROWS: usize = 7;
+
+pub const FIXED: u32 = 5;
 
 pub const MARKED: u32 = 16;
 

@@ -1,5 +1,6 @@
 // Damage to the book of `main`: three symbols (the first with one parameter, the others with two), two variables, two positions.
-// Kind 0 leaves it, 1 to 14 and 16 take it out of what is sound, 15 lets a word end at position 1, where `s` is free.
+// Kind 0 leaves it, 1 to 14 and 16 take it out of what is sound, 15 lets a word end at position 1, where `s` is free; 17 puts a fixed number
+// among each symbol's parameters, which leaves it sound.
 use crate::amounts;
 use crate::sizes::TEXT_BYTES;
 use book::Book;
@@ -12,8 +13,16 @@ use table::SYMBOLS;
 use table::Symbol;
 use table::VARIABLES;
 
-// The kind of damage to a name.
+// The kinds of damage that leave it sound, and that to a name.
+pub const ENDED: u32 = 15;
+
 const MISNAMED: u32 = 16;
+
+pub const FIXED: u32 = 17;
+
+pub fn is_unsound(kind: u32) -> bool {
+    0 < kind && kind != ENDED && kind != FIXED
+}
 
 pub fn damaged(b: Book, kind: u32, x: u64, y: u64) -> Book {
     if kind < 6 {
@@ -28,8 +37,54 @@ pub fn damaged(b: Book, kind: u32, x: u64, y: u64) -> Book {
     if kind == MISNAMED {
         return misnamed(b, x, y);
     }
+    if kind == FIXED {
+        return fixed(b, amounts::short(x), y);
+    }
     let mut r = b;
     r.ends = 2;
+    r
+}
+
+// Where among so many others a fixed number, or the argument for it, stands.
+pub fn place(y: u64, others: u64) -> u64 {
+    y % (others % 3 + 1)
+}
+
+fn fixed(b: Book, number: u32, y: u64) -> Book {
+    let p = Parameter {
+        tag: 2,
+        number: number,
+    };
+    let first = b.table[0];
+    let second = b.table[1];
+    let third = b.table[2];
+    let mut r = b;
+    r.table[0] = widened(first, p, y);
+    r.table[1] = widened(second, p, y);
+    r.table[2] = widened(third, p, y);
+    r
+}
+
+// A symbol with a parameter more, before, among or behind its one or two.
+fn widened(s: Symbol, p: Parameter, y: u64) -> Symbol {
+    let first = s.parameters[0];
+    let second = s.parameters[1];
+    let mut r = s;
+    r.count = s.count % 3 + 1;
+    match place(y, s.count as u64) {
+        0 => {
+            r.parameters[0] = p;
+            r.parameters[1] = first;
+            r.parameters[2] = second;
+        }
+        1 => {
+            r.parameters[1] = p;
+            r.parameters[2] = second;
+        }
+        _ => {
+            r.parameters[2] = p;
+        }
+    }
     r
 }
 
@@ -164,7 +219,7 @@ fn symbol(s: Symbol, kind: u32, x: u64, y: u64) -> Symbol {
 fn argument(p: Parameter, kind: u32, x: u64) -> Parameter {
     if kind == 13 {
         return Parameter {
-            tag: amounts::above_short(2, x),
+            tag: amounts::above_short(3, x),
             number: p.number,
         };
     }

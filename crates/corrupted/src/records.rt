@@ -8,8 +8,8 @@ pub struct Lent {
     pub length: usize,
 }
 
-// An event of up to two arguments; the byte behind the record is not its own.
-pub fn written(kind: u8, count: u8, a: u32, b: u32) -> Lent {
+// An event of up to three arguments; the byte behind the record is not its own.
+pub fn written(kind: u8, count: u8, a: u32, b: u32, c: u32) -> Lent {
     let bytes = [
         kind,
         count,
@@ -23,10 +23,10 @@ pub fn written(kind: u8, count: u8, a: u32, b: u32) -> Lent {
         part(b, 256),
         part(b, 65536),
         part(b, 16777216),
-        0,
-        0,
-        0,
-        0,
+        part(c, 1),
+        part(c, 256),
+        part(c, 65536),
+        part(c, 16777216),
         0,
         0,
         0,
@@ -71,11 +71,20 @@ fn length_of(kind: u32, y: u64) -> usize {
     }
 }
 
+// A byte of an argument beyond the two or three that there are.
+fn beyond(count: u8, y: u64) -> usize {
+    if count == 3 {
+        16 + (y % 4) as usize
+    } else {
+        12 + (y % 8) as usize
+    }
+}
+
 // Kind 0, a count above four, byte 2 or 3 not zero, an argument beyond the count not zero.
 fn misformed(bytes: [u8; RECORD_ROOM], kind: u32, x: u64, y: u64) -> [u8; RECORD_ROOM] {
     let mut r = bytes;
     let more = 1 + (x % 255) as u8;
-    let i = 12 + (y % 8) as usize;
+    let i = beyond(r[1], y) % RECORD;
     match kind {
         4 => {
             r[0] = 0;

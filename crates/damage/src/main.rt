@@ -98,14 +98,15 @@ fn scored(score: Score, answer: usize, good: bool) -> Score {
 
 // One case: what is lent is drawn, the call is made, and what it leaves is compared.
 fn one(seed: u64, read: Book, score: Score) -> Score {
-    let m = moves::drawn(seed);
-    let h = m.held;
+    let drawn = moves::drawn(seed);
+    let h = drawn.held;
     let k = lending::damages(seed, h.count);
+    let m = lending::meant(seed, drawn, k.book);
     let s = lending::drawn_space(seed);
     let book = lending::lent_book(seed, read, k.book);
     let state = lending::lent_state(seed, m, k.state);
     let tally = lending::lent_tally(seed);
-    let lent = lending::lent_record(seed, m, k.record);
+    let lent = lending::lent_record(seed, m, k);
     let l = leaving::told(k, m, s, state, tally);
     let mut rows = [0u8; BUFFER];
     lending::fill(seed, &mut rows);
@@ -118,7 +119,7 @@ fn one(seed: u64, read: Book, score: Score) -> Score {
 
 // An event taken in the ordinary way.
 fn after(book: Book, state: State, kind: u8, count: u8, a: u32, b: u32) -> State {
-    let l = records::written(kind, count, a, b);
+    let l = records::written(kind, count, a, b, 0);
     let mut rows = [0u8; ROW];
     let t = Tally::none();
     let s = lending::spaced(ROW, 0);

@@ -4,6 +4,7 @@ use crate::lending::Kinds;
 use crate::lending::Space;
 use crate::moves::Move;
 use corrupted::amounts;
+use corrupted::books;
 use corrupted::records;
 use corrupted::sizes::BUFFER;
 use corrupted::sizes::MOST_EVENTS;
@@ -22,7 +23,7 @@ pub struct Left {
 
 // How many rows the event has: none where the book's words end at position 1.
 fn rows_of(k: Kinds, m: Move) -> usize {
-    if k.book == 15 { 0 } else { m.rows }
+    if k.book == books::ENDED { 0 } else { m.rows }
 }
 
 // Whether there is space from the place on for the row, if there is one; the place itself must not be beyond the end.
@@ -36,13 +37,13 @@ fn fits(s: Space, rows: usize) -> bool {
 // "Events: 9 to 13 in that order." 9 "also covers a row that would leave a variable free": `open` where words end at position 1.
 fn answer_of(k: Kinds, m: Move, s: Space) -> usize {
     let h = m.held;
-    if 0 < k.book && k.book != 15 || 0 < k.state {
+    if books::is_unsound(k.book) || 0 < k.state {
         return 9;
     }
     if 0 < k.record {
         return 10;
     }
-    if k.book == 15 && m.kind == 5 {
+    if k.book == books::ENDED && m.kind == 5 {
         return 9;
     }
     if h.number == MOST_EVENTS {

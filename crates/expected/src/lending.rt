@@ -1,5 +1,6 @@
 // What is lent to the event call in one case, drawn from the seed of the case: which kinds of damage there are, the book, the state, the
 // record, the tally, and the buffer with the place from which rows go into it.
+use crate::moves;
 use crate::moves::Move;
 use book::Book;
 use corrupted::amounts;
@@ -37,7 +38,7 @@ fn kind(seed: u64, k: u64, kinds: u64) -> u32 {
 pub fn damages(seed: u64, held: usize) -> Kinds {
     let state = kind(seed, 32, 10);
     Kinds {
-        book: kind(seed, 30, 16),
+        book: kind(seed, 30, 17),
         state: if held == 2 { state } else { 0 },
         record: kind(seed, 34, 8),
     }
@@ -65,10 +66,36 @@ pub fn spaced(size: usize, place: usize) -> Space {
     }
 }
 
+// How much a book is damaged, and where. A fixed number is as much; what the event has there is the same, one time in two, or differs in
+// one bit.
+fn much(seed: u64) -> u64 {
+    amounts::amount(seed, 50)
+}
+
+fn somewhere(seed: u64) -> u64 {
+    draws::below(seed, 52, 1000000)
+}
+
+fn given(seed: u64) -> u32 {
+    let number = amounts::short(much(seed));
+    if draws::below(seed, 90, 2) == 0 {
+        return number;
+    }
+    number ^ 1 << (draws::below(seed, 91, 32) % 32)
+}
+
+// What the event does, with the damage to the book: "The symbol's constraint is false where that argument differs."
+pub fn meant(seed: u64, m: Move, kind: u32) -> Move {
+    if kind == books::FIXED && given(seed) != amounts::short(much(seed)) {
+        return moves::passed_over(m);
+    }
+    m
+}
+
 // The book that is lent: what no count reaches filled, one time in two, and then the damage.
 pub fn lent_book(seed: u64, b: Book, kind: u32) -> Book {
-    let x = amounts::amount(seed, 50);
-    let y = draws::below(seed, 52, 1000000);
+    let x = much(seed);
+    let y = somewhere(seed);
     if draws::below(seed, 53, 2) == 0 {
         return books::damaged(b, kind, x, y);
     }
@@ -89,12 +116,26 @@ pub fn lent_state(seed: u64, m: Move, kind: u32) -> State {
     states::damaged(s, kind, x, y)
 }
 
+// The event's bytes: with an argument more where the symbols have a fixed number.
+fn written(seed: u64, m: Move, kind: u32) -> Lent {
+    if kind != books::FIXED {
+        return records::written(m.kind, m.count, m.a, m.b, 0);
+    }
+    let count = m.count % 3 + 1;
+    let g = given(seed);
+    match books::place(somewhere(seed), m.count as u64) {
+        0 => records::written(m.kind, count, g, m.a, m.b),
+        1 => records::written(m.kind, count, m.a, g, m.b),
+        _ => records::written(m.kind, count, m.a, m.b, g),
+    }
+}
+
 // The event's record, with the damage.
-pub fn lent_record(seed: u64, m: Move, kind: u32) -> Lent {
-    let l = records::written(m.kind, m.count, m.a, m.b);
+pub fn lent_record(seed: u64, m: Move, k: Kinds) -> Lent {
+    let l = written(seed, m, k.book);
     records::damaged(
         l,
-        kind,
+        k.record,
         amounts::amount(seed, 70),
         draws::below(seed, 72, 1000000),
     )

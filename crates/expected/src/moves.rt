@@ -38,6 +38,12 @@ fn still(held: Held, kind: u8, count: u8, a: u32, b: u32) -> Move {
     }
 }
 
+// The same event where the book says nothing of it.
+pub fn passed_over(m: Move) -> Move {
+    let h = m.held;
+    still(h, m.kind, m.count, m.a, m.b)
+}
+
 // One that would need a seventh exclusion.
 fn crowded(held: Held, kind: u8, a: u32, b: u32) -> Move {
     let mut m = still(held, kind, 2, a, b);

@@ -1,5 +1,7 @@
 // The lines before the pattern, byte by byte: words divided by one space, each judged where it ends by the line's number and its own.
 // For `scanner`, the second reader.
+mod numbers;
+
 use noted::FROM;
 use noted::RUN;
 use noted::WORD_COUNT;
@@ -71,8 +73,10 @@ fn word_byte(work: &mut [u32], at: u32, b: u32) {
         noted::up(work, WORD_COUNT);
         cells::put(work, noted::FORM, form(true, 1, b));
         cells::put(work, noted::VALUE, value(0, b));
+        numbers::first(work, b);
         return;
     }
+    numbers::next(work, b);
     let form = form(false, cells::get(work, noted::FORM), b);
     let value = value(cells::get(work, noted::VALUE), b);
     cells::put(work, noted::FORM, form);
@@ -136,6 +140,7 @@ fn sym_word(text: &[u8], work: &mut [u32], i: u32, from: u32, size: u32) {
         3 => {
             let kind = cells::get(work, noted::VALUE);
             noted::fault_if(KIND_LIMIT < kind, work, 2, from);
+            declared::kind(work, kind);
         }
         4..=7 => {
             argument(text, work, from, size);
@@ -172,14 +177,25 @@ fn formed(work: &mut [u32], from: u32, size: u32) {
     noted::fault_if(declared::NAME_BYTES < size, work, 3, from);
 }
 
-// "each a declared variable or `_`"; "a symbol's name among ARGS … is 5".
+// "each a declared variable or `_`", or `=` and a number.
 fn argument(text: &[u8], work: &mut [u32], from: u32, size: u32) {
     if declared::spells(text, from, size, b"_") {
-        return;
+        declared::argument(work, noted::IGNORED, 0);
+    } else if cells::get(work, noted::SIGNED) == noted::PLAIN {
+        variable(text, work, from, size);
+    } else {
+        noted::fault_if(!numbers::is_right(work), work, 2, from);
+        let number = cells::get(work, noted::NUMBER);
+        declared::argument(work, noted::FIXED, number);
     }
+}
+
+// "a symbol's name among ARGS … is 5".
+fn variable(text: &[u8], work: &mut [u32], from: u32, size: u32) {
     formed(work, from, size);
     let variables = cells::get(work, noted::VARIABLES);
     let v = declared::find(text, work, 0, variables, from, size);
     noted::fault_if(v == variables, work, 5, from);
     declared::bind(work, v);
+    declared::argument(work, noted::VARIABLE, v);
 }

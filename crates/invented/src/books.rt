@@ -1,5 +1,5 @@
 // The words of a random book: how many variables, over which domain; symbols of few kinds and counts, so that several match one event,
-// a place ignored or a variable, which may stand twice; and a pattern as nodes, each made of earlier ones. For `words`.
+// a place ignored, a variable, which may stand twice, or a fixed number; and a pattern as nodes, each made of earlier ones. For `words`.
 use crate::draw;
 use cells::ENTRIES;
 use cells::ENTRY_WORDS;
@@ -8,8 +8,13 @@ use cells::NODES;
 use cells::SECOND;
 use cells::SYMBOLS;
 
-// One book in so many is a gathering one; the numbers of variables; symbols; kinds of nodes; nodes that may be the last.
+// One book in so many is a gathering one; of the places without a variable one in so many is a number, of those that are in every domain;
+// the numbers of variables; symbols; kinds of nodes; nodes that may be the last.
 const GATHERING_IN: u32 = 8;
+
+const FIXED_IN: u32 = 2;
+
+const NUMBER_COUNT: u32 = 3;
 
 const VARIABLE_COUNTS: u32 = 5;
 
@@ -38,8 +43,12 @@ const FIRSTS: usize = 1300;
 
 const SECONDS: usize = 1400;
 
+const FIXED: usize = 1500;
+
+const NUMBERS: usize = 1600;
+
 // Every eighth book is one in which partial matches gather exclusions: `open seal`, where `fill` shares open's variable and seal's
-// both. Its words up to the last node.
+// both. Its words up to the last node; a fourth symbol, which the pattern does not name, is drawn as for any book.
 const GATHERED_WORDS: usize = 64;
 
 const GATHERED: [u32; GATHERED_WORDS] = [
@@ -110,6 +119,8 @@ const GATHERED: [u32; GATHERED_WORDS] = [
 ];
 
 const GATHERED_ROOT: u32 = 7;
+
+const LAST_SYMBOL: usize = NODES - 1;
 
 // By the number of variables: the largest value, how many valuations there are then (at most 100), and what one more of each variable
 // adds to a valuation's number, less one; much where there is no such variable.
@@ -237,7 +248,7 @@ pub fn family(variables: u32, i: usize) -> u32 {
 
 // A word of the book before the events.
 pub fn word(book: u64, w: usize) -> u32 {
-    if w < GATHERED_WORDS && gathering(book) {
+    if w < GATHERED_WORDS && w / ENTRY_WORDS != LAST_SYMBOL && gathering(book) {
         return GATHERED[w % GATHERED_WORDS];
     }
     if w < SYMBOLS * ENTRY_WORDS {
@@ -264,12 +275,21 @@ fn symbol(book: u64, w: usize) -> u32 {
     if (symbol_count(book) as usize) < s {
         return 0;
     }
-    crate::shape(
-        book,
-        w,
-        variables(book) % VARIABLE_COUNTS + 1,
-        draw(book, COUNTS + s, crate::COUNTS),
-    )
+    let count = draw(book, COUNTS + s, crate::COUNTS);
+    let x = crate::shape(book, w, variables(book) % VARIABLE_COUNTS + 1, count);
+    let i = w % ENTRY_WORDS;
+    if x == 0 && cells::PARAMETER <= i && i < cells::PARAMETER + count as usize {
+        return unbound(book, w);
+    }
+    x
+}
+
+// A place without a variable: ignored, or a number. No place is taken from a variable, so that no fewer books bind all of theirs.
+fn unbound(book: u64, w: usize) -> u32 {
+    if draw(book, FIXED + w % ENTRIES, FIXED_IN) != 0 {
+        return 0;
+    }
+    cells::FIXED + draw(book, NUMBERS + w % ENTRIES, NUMBER_COUNT) % NUMBER_COUNT
 }
 
 fn symbol_count(book: u64) -> u32 {

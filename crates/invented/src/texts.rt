@@ -4,15 +4,18 @@ use cells::ENTRIES;
 use cells::NODES;
 use cells::PARAMETER;
 
-// The lines before the pattern, an entry to each, 16 bytes wide, and then the word before the pattern, are a template: `.` is no byte, `#`
-// stands for the kind, `-` for the space before a parameter if there is one, `_` for the parameter.
-const LINE: usize = 16;
+// The lines before the pattern, an entry to each, 20 bytes wide, and then the word before the pattern, are a template: `.` is no byte, `#`
+// stands for the kind, `-` for the space before a parameter if there is one, `=` for the sign before it if it is a number, `_` for the
+// parameter.
+const LINE: usize = 20;
 
 const MATCH: usize = 6;
 
 const TEMPLATE: usize = NODES * LINE + MATCH;
 
 const HEAD: usize = 7;
+
+const PARAMETER_BYTES: usize = 3;
 
 pub fn text(trial: &[u32], bytes: &mut [u8]) -> usize {
     let n = lines(trial, bytes);
@@ -44,7 +47,7 @@ fn lines(trial: &[u32], bytes: &mut [u8]) -> usize {
 
 fn template(w: usize) -> u32 {
     let bytes =
-        b"vars...-_-_-_-_\nsym p #-_-_-_-_\nsym q #-_-_-_-_\nsym r #-_-_-_-_\nsym s #-_-_-_-_\nmatch ";
+        b"vars...-=_-=_-=_-=_\nsym p #-=_-=_-=_-=_\nsym q #-=_-=_-=_-=_\nsym r #-=_-=_-=_-=_\nsym s #-=_-=_-=_-=_\nmatch ";
     wide(bytes[w % TEMPLATE])
 }
 
@@ -61,8 +64,8 @@ fn byte(trial: &[u32], entry: usize, column: usize, b: u32) -> u32 {
     if b == b'#' as u32 {
         return b'0' as u32 + kind % 10;
     }
-    if b == b'-' as u32 || b == b'_' as u32 {
-        return parameter(trial, entry, (column % LINE + LINE - HEAD) / 2 % 8, b);
+    if HEAD <= column && b != b'\n' as u32 {
+        return parameter(trial, entry, (column - HEAD) / PARAMETER_BYTES, b);
     }
     if b == b'.' as u32 { 0 } else { b }
 }
@@ -74,6 +77,20 @@ fn parameter(trial: &[u32], entry: usize, i: usize, b: u32) -> u32 {
     }
     if b == b'-' as u32 {
         return b' ' as u32;
+    }
+    if b == b'=' as u32 {
+        return sign(p);
+    }
+    written(p)
+}
+
+fn sign(p: u32) -> u32 {
+    if cells::FIXED <= p { b'=' as u32 } else { 0 }
+}
+
+fn written(p: u32) -> u32 {
+    if cells::FIXED <= p {
+        return b'0' as u32 + (p - cells::FIXED) % 10;
     }
     if p == 0 {
         return b'_' as u32;

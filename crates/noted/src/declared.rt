@@ -1,5 +1,6 @@
-// The names that were declared, kept as parts of the text and compared by their bytes; and a word compared with the one that it must be.
-// For the second reader.
+// The names that were declared, kept as parts of the text and compared by their bytes, with what was declared of them; and a word compared
+// with the one that it must be. For the second reader.
+use crate::ARGUMENTS;
 use crate::BOUND;
 use crate::NAME_WORDS;
 
@@ -72,14 +73,8 @@ fn index(n: u32, i: usize) -> usize {
 pub fn find(text: &[u8], work: &[u32], first: u32, last: u32, from: u32, size: u32) -> u32 {
     let mut n = first;
     while n < last {
-        if cells::get(work, index(n, crate::SIZE)) == size
-            && same(
-                text,
-                from,
-                text,
-                cells::get(work, index(n, crate::START)),
-                size,
-            )
+        if word(work, n, crate::SIZE) == size
+            && same(text, from, text, word(work, n, crate::START), size)
         {
             return n;
         }
@@ -96,17 +91,44 @@ pub fn declare(work: &mut [u32], from: u32, size: u32) {
     crate::up(work, crate::NAMES);
 }
 
+// Where word i of the last name is.
+fn last(work: &[u32], i: usize) -> usize {
+    let names = cells::get(work, crate::NAMES) % BOUND;
+    index(names + BOUND - 1, i)
+}
+
+// The last name has a kind.
+pub fn kind(work: &mut [u32], kind: u32) {
+    let i = last(work, crate::KIND);
+    cells::put(work, i, kind);
+}
+
+// The last name has one argument more, of some sort and with a number.
+pub fn argument(work: &mut [u32], tag: u32, number: u32) {
+    let i = last(work, crate::COUNT);
+    let n = cells::get(work, i) as usize % ARGUMENTS;
+    let a = last(work, crate::TAG + n);
+    let b = last(work, crate::ARGUMENT + n);
+    cells::put(work, a, tag);
+    cells::put(work, b, number);
+    crate::up(work, i);
+}
+
 // The last name binds a variable.
 pub fn bind(work: &mut [u32], variable: u32) {
-    let names = cells::get(work, crate::NAMES) % BOUND;
-    let i = index(names + BOUND - 1, crate::BINDS);
+    let i = last(work, crate::BINDS);
     let binds = cells::get(work, i);
     cells::put(work, i, binds | 1 << (variable % 32));
 }
 
 // What the name with a number binds, a bit to each variable.
 pub fn binds(work: &[u32], n: u32) -> u32 {
-    cells::get(work, index(n, crate::BINDS))
+    word(work, n, crate::BINDS)
+}
+
+// Word i of what is noted of the name with a number.
+pub fn word(work: &[u32], n: u32, i: usize) -> u32 {
+    cells::get(work, index(n, i))
 }
 
 // Where the name with a number was declared; nothing where it was not, or the text was refused.
@@ -115,7 +137,7 @@ pub fn name(work: &[u32], n: u32) -> Part {
         return Part { start: 0, size: 0 };
     }
     Part {
-        start: cells::get(work, index(n, crate::START)) as usize,
-        size: cells::get(work, index(n, crate::SIZE)) as usize,
+        start: word(work, n, crate::START) as usize,
+        size: word(work, n, crate::SIZE) as usize,
     }
 }

@@ -34,27 +34,42 @@ pub const WORD: u32 = 1;
 
 pub const GAP: u32 = 2;
 
-// Of the word so far: 1 where it has the form of a name; its value as a KIND.
+// Of the word so far: 1 where it has the form of a name; its value as a KIND; what it is as a fixed number, and that number.
 pub const FORM: usize = 6;
 
 pub const VALUE: usize = 7;
 
-// How many variables, and how many names in all.
-pub const VARIABLES: usize = 8;
+pub const SIGNED: usize = 8;
 
-pub const NAMES: usize = 9;
+pub const NUMBER: usize = 9;
+
+// No `=` stands first; nothing stands behind it; 0 does; a number from 1 on does; or anything else.
+pub const PLAIN: u32 = 0;
+
+pub const SIGN: u32 = 1;
+
+pub const ZERO: u32 = 2;
+
+pub const POSITIVE: u32 = 3;
+
+pub const BROKEN: u32 = 4;
+
+// How many variables, and how many names in all.
+pub const VARIABLES: usize = 10;
+
+pub const NAMES: usize = 11;
 
 // Of the pattern: the first token's place, the occurrences, the open parentheses, and 1 where an item stands before.
-pub const FIRST: usize = 10;
+pub const FIRST: usize = 12;
 
-pub const OCCURRENCES: usize = 11;
+pub const OCCURRENCES: usize = 13;
 
-pub const DEPTH: usize = 12;
+pub const DEPTH: usize = 14;
 
-pub const STANDS: usize = 13;
+pub const STANDS: usize = 15;
 
 // For each depth: what some word of the sequences before this one lacks; what every word has of this one but its last item, and of that.
-pub const LEVEL: usize = 14;
+pub const LEVEL: usize = 16;
 
 pub const LEVEL_WORDS: usize = 3;
 
@@ -66,10 +81,11 @@ pub const SEQUENCE: usize = 1;
 
 pub const ITEM: usize = 2;
 
-// For each name, its place, its size and the variables that it binds.
+// For each name, its place, its size and the variables that it binds; of a symbol also its kind, how many arguments, and for each of the
+// four what it is (0 ignored, 1 a variable, 2 fixed), then for each the variable's number or the fixed one.
 pub const NAME: usize = LEVEL + LEVELS * LEVEL_WORDS;
 
-pub const NAME_WORDS: usize = 3;
+pub const NAME_WORDS: usize = 13;
 
 pub const NAME_LIMIT: usize = 20;
 
@@ -78,6 +94,22 @@ pub const START: usize = 0;
 pub const SIZE: usize = 1;
 
 pub const BINDS: usize = 2;
+
+pub const KIND: usize = 3;
+
+pub const COUNT: usize = 4;
+
+pub const TAG: usize = 5;
+
+pub const ARGUMENT: usize = 9;
+
+pub const ARGUMENTS: usize = 4;
+
+pub const IGNORED: u32 = 0;
+
+pub const VARIABLE: u32 = 1;
+
+pub const FIXED: u32 = 2;
 
 pub const WORDS: usize = NAME + NAME_LIMIT * NAME_WORDS;
 

@@ -1,4 +1,4 @@
-// The second reader: number and place for any text of a book, by document 01. One pass over the bytes, with what has been noted so
+// The second reader: number and place for any text of a book, by documents 01 and 02. One pass over the bytes, with what has been noted so
 // far in lent words; it shares no code with the reader and has no recursion. For the program `texts`, which compares the two.
 mod tokens;
 

@@ -1,6 +1,7 @@
 // Which symbols hold on an event under a valuation: which events concern it. For the second matcher.
 use cells::ANSWER;
 use cells::CODES;
+use cells::FIXED;
 use cells::PARAMETER;
 
 // A bound for numbers that are small, so that sums need no proof.
@@ -36,7 +37,8 @@ fn holding(trial: &[u32], code: u32, e: usize) -> u32 {
     m
 }
 
-// 1 where kind and count of event e are those of symbol s, and each argument is what the parameter asks.
+// 1 where kind and count of event e are those of symbol s, and each argument is what the parameter asks: a fixed number asks the same of
+// every valuation.
 fn holds(trial: &[u32], code: u32, s: usize, e: usize) -> u32 {
     let mut x: u32 = 1;
     let mut i: usize = 0;
@@ -60,6 +62,9 @@ fn agrees(trial: &[u32], code: u32, i: usize, asked: u32, word: u32) -> u32 {
     }
     if asked == 0 {
         return 1;
+    }
+    if FIXED <= asked {
+        return same(asked - FIXED, word);
     }
     same(value(trial, code, asked as usize - 1), word)
 }

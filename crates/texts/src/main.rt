@@ -1,12 +1,21 @@
 // Every text that is one edit away from some books, and texts with two edits drawn at random, go to the reader and to the second reader:
-// numbers and places are compared, and where names were declared. Prints how many there were, and the first differences.
+// numbers and places are compared, where names were declared, and what of the symbols. Prints how many there were, and the first differences.
+use book::Book;
 use noted::declared;
 use scanner::Verdict;
+use table::Symbol;
 
 // Long texts have so many bytes, less one.
 const SHORTEST: usize = 4085;
 
 const LONGEST: usize = 4105;
+
+// Texts with a number of many zeros: few of them, each once, and then so many that the text is about as long as a text may be.
+const ZEROS: usize = 120;
+
+const FEW_ZEROS: usize = 100;
+
+const MANY_ZEROS: usize = 4060;
 
 // Texts with two edits; differences that are printed; names that are asked for, one of them by each text.
 const PAIRS: u64 = 100000;
@@ -29,6 +38,7 @@ fn main() {
     let mut score = [0u32; SCORE_WORDS];
     let mut work = [0u32; noted::WORDS];
     longs(&mut work, &mut score);
+    numbers(&mut work, &mut score);
     singles(&mut work, &mut score);
     pairs(&mut work, &mut score);
     report(&score);
@@ -78,6 +88,26 @@ fn long(size: usize, work: &mut [u32], score: &mut [u32]) {
     variants::push(&mut text, (base + LONGEST - 1) % LONGEST, b' ' as u32);
     variants::push(&mut text, size, b'\n' as u32);
     compared(cells::part(&text, 0, size % LONGEST + 1), work, score);
+}
+
+// Numbers with zeros.
+fn numbers(work: &mut [u32], score: &mut [u32]) {
+    let mut i: usize = 0;
+    while i < ZEROS {
+        number(i, work, score);
+        i += 1;
+    }
+}
+
+fn number(i: usize, work: &mut [u32], score: &mut [u32]) {
+    let mut text = [0u8; LONGEST];
+    let zeros = if i < FEW_ZEROS {
+        i
+    } else {
+        MANY_ZEROS + (i - FEW_ZEROS) % ZEROS
+    };
+    let size = variants::zeros(zeros, &mut text);
+    compared(cells::part(&text, 0, size), work, score);
 }
 
 fn singles(work: &mut [u32], score: &mut [u32]) {
@@ -138,17 +168,19 @@ fn later(a: u64, b: u64) -> u64 {
     if a < b { b } else { a }
 }
 
-// One text goes to both readers, and one of its names is asked for.
+// One text goes to both readers, and one of its names is asked for, with what was declared of it.
 fn compared(text: &[u8], work: &mut [u32], score: &mut [u32]) {
     let r = reader::read(text);
     let a = r.answer;
+    let b = r.book;
     let number = book::number_of(a);
     let place = book::place_of(a);
     let v = scanner::judge(text, work);
     up(score, number % TEXTS);
     up(score, TEXTS);
     let name = get(score, TEXTS) % NAMES;
-    if number != v.number || place != v.place || !named(text, work, name) {
+    let alike = named(text, work, name) && declared_alike(b, work, name);
+    if number != v.number || place != v.place || !alike {
         told(text, number, place, v, get(score, DIFFERENCES));
         up(score, DIFFERENCES);
     }
@@ -166,7 +198,37 @@ fn named(text: &[u8], work: &[u32], number: u32) -> bool {
         )
 }
 
-// A difference, if there have not been many: what the two readers answer (where they agree it is a name that differs), and the text.
+// Whether what the book has of a symbol is what the second reader noted of its name; a refused book has no symbols.
+fn declared_alike(b: Book, work: &[u32], number: u32) -> bool {
+    let n = number as usize;
+    let table = b.table;
+    if n < b.variables {
+        return true;
+    }
+    let i = n - b.variables;
+    if b.symbols <= i {
+        return true;
+    }
+    let y = table[i % table::SYMBOLS];
+    y.kind == declared::word(work, number, noted::KIND)
+        && y.count == declared::word(work, number, noted::COUNT) as usize
+        && parameters_alike(y, work, number)
+}
+
+fn parameters_alike(y: Symbol, work: &[u32], number: u32) -> bool {
+    let mut r = true;
+    let mut i: usize = 0;
+    while i < table::PARAMETERS {
+        let p = y.parameters[i];
+        r = r & (p.tag == declared::word(work, number, noted::TAG + i));
+        r = r & (p.number == declared::word(work, number, noted::ARGUMENT + i));
+        i += 1;
+    }
+    r
+}
+
+// A difference, if there have not been many: what the two readers answer (where they agree it is a name that differs, or what was declared
+// of it), and the text.
 fn told(text: &[u8], number: usize, place: usize, v: Verdict, before: u32) {
     if PRINTED <= before {
         return;

@@ -1,7 +1,7 @@
-// The books whose texts are edited: document 01's two, and others that meet its limits, use all of its signs, or have names like its own
-// words. For the program `texts`.
+// The books whose texts are edited: document 01's two, and others that meet its limits, use all of its signs, have names like its own
+// words, or fixed numbers; and the texts of a number with many zeros. For the program `texts`.
 
-pub const BASES: usize = 9;
+pub const BASES: usize = 11;
 
 // The bytes that the buffers hold: more than any base text has after its edits.
 pub const ROOM: usize = 2048;
@@ -29,14 +29,31 @@ pub fn push(text: &mut [u8], n: usize, b: u32) -> usize {
     n
 }
 
-fn copied(from: &[u8], text: &mut [u8]) -> usize {
-    let mut n: usize = 0;
+// Bytes behind k others: how many there are then.
+fn appended(from: &[u8], text: &mut [u8], k: usize) -> usize {
+    let mut n = k;
     let mut i: usize = 0;
     while i < from.len() {
         n = push(text, n, byte(from, i));
         i += 1;
     }
     n
+}
+
+fn copied(from: &[u8], text: &mut [u8]) -> usize {
+    appended(from, text, 0)
+}
+
+// A book with the fixed number 1 and so many zeros: it is out of range from ten zeros on, and where a sum of 32 or 64 bits wrapped it would
+// be 0 from 32 or 64 zeros on. How many bytes its text has.
+pub fn zeros(count: usize, text: &mut [u8]) -> usize {
+    let mut n = copied(b"vars\nsym a 1 =1", text);
+    let mut i: usize = 0;
+    while i < count {
+        n = push(text, n, b'0' as u32);
+        i += 1;
+    }
+    appended(b"\nmatch a\n", text, n)
 }
 
 // The base text with a number is put into the buffer: how many bytes it has.
@@ -71,9 +88,21 @@ pub fn base(k: usize, text: &mut [u8]) -> usize {
             b"vars vars\nsym sym 1 vars\nsym match 2 vars\nmatch match sym\n",
             text,
         ),
-        _ => copied(
+        8 => copied(
             b"vars a b c e\nsym p 1 a b\nsym q 2 c e\nsym r 3 b c\nsym s 4 e a\nmatch (p q|q p|(r s)+|s+ r)p?((r|q))+\n",
             text,
         ),
+        _ => fixed(k, text),
     }
+}
+
+// Those with fixed numbers: of all sizes beside the other arguments, and one alone.
+fn fixed(k: usize, text: &mut [u8]) -> usize {
+    if k == 9 {
+        return copied(
+            b"vars d dd\nsym a 1 =0 dd\nsym b 2 =4294967295 d =10\nsym c 3 =3\nsym e 255 dd =429496729 _ =99\nmatch (a|e) c* b\n",
+            text,
+        );
+    }
+    copied(b"vars\nsym a 1 =3\nmatch a\n", text)
 }

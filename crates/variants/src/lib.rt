@@ -7,9 +7,10 @@ use bases::NONE;
 pub use bases::ROOM;
 pub use bases::base;
 pub use bases::push;
+pub use bases::zeros;
 
 // The bytes that are put in; the kinds of edits: six, and two for each of these.
-const OTHERS: usize = 21;
+const OTHERS: usize = 23;
 
 pub const KINDS: usize = 6 + 2 * OTHERS;
 
@@ -22,7 +23,7 @@ pub struct Edit {
 }
 
 fn other(j: usize) -> u32 {
-    bases::byte(b" \n\r\t\0abz019_*+?|()A\xff=", j % OTHERS)
+    bases::byte(b" \n\r\t\0abz01569_*+?|()A\xff=", j % OTHERS)
 }
 
 fn joined(keep: usize, from: usize) -> Edit {

@@ -10,7 +10,7 @@ abbrev Inv-loop : tie.InvT-loop
 Inv-loop k work₀ score₀ text size i₀ work score i = (length work ≡ length work₀) × (length score ≡ length score₀)
 
 abbrev μ-loop : tie.MeasureT-loop
-μ-loop k work₀ score₀ text size i₀ work score i = ((size + 1) * 48) - i
+μ-loop k work₀ score₀ text size i₀ work score i = ((size + 1) * 52) - i
 
 slice-aggregate-base : tie.Need-slice-aggregate-base Inv-loop μ-loop
 slice-aggregate-base c = search needs

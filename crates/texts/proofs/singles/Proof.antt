@@ -10,7 +10,7 @@ abbrev Inv-loop : tie.InvT-loop
 Inv-loop work₀ score₀ k₀ work score k = (length work ≡ length work₀) × (length score ≡ length score₀)
 
 abbrev μ-loop : tie.MeasureT-loop
-μ-loop work₀ score₀ k₀ work score k = 9 - k
+μ-loop work₀ score₀ k₀ work score k = 11 - k
 
 loop-holds : tie.Need-loop-holds Inv-loop μ-loop
 loop-holds c = search needs

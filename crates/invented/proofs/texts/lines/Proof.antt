@@ -7,10 +7,10 @@ use Rattle.invented.proofs.texts.lines.Statement.{statement}
 use Rattle.invented.proofs.texts.lines.Tie as tie
 
 abbrev Inv-loop : tie.InvT-loop
-Inv-loop trial bytes₀ n₀ w₀ bytes n w = (length bytes ≡ length bytes₀) × (w ≤ 86)
+Inv-loop trial bytes₀ n₀ w₀ bytes n w = (length bytes ≡ length bytes₀) × (w ≤ 106)
 
 abbrev μ-loop : tie.MeasureT-loop
-μ-loop trial bytes₀ n₀ w₀ bytes n w = 86 - w
+μ-loop trial bytes₀ n₀ w₀ bytes n w = 106 - w
 
 loop-holds : tie.Need-loop-holds Inv-loop μ-loop
 loop-holds c = search needs

@@ -1,25 +1,22 @@
--- `variants::bases::copied` is safe and ends: the turns are counted.
+-- `texts::numbers` is safe and ends: the turns are counted.
 use mathlib.Core.Path.{_≡_}
 use Prim.Native.Nat.{_-_}
 use lib.ListN.{length}
 use borrow.Author.Needs.{needs}
-use Rattle.variants.proofs.bases.copied.Statement.{statement}
-use Rattle.variants.proofs.bases.copied.Tie as tie
+use Rattle.texts.proofs.numbers.Statement.{statement}
+use Rattle.texts.proofs.numbers.Tie as tie
 
 abbrev Inv-loop : tie.InvT-loop
-Inv-loop from text₀ n₀ i₀ text n i = length text ≡ length text₀
+Inv-loop work₀ score₀ i₀ work score i = (length work ≡ length work₀) × (length score ≡ length score₀)
 
 abbrev μ-loop : tie.MeasureT-loop
-μ-loop from text₀ n₀ i₀ text n i = length from - i
+μ-loop work₀ score₀ i₀ work score i = 120 - i
 
 loop-holds : tie.Need-loop-holds Inv-loop μ-loop
 loop-holds c = search needs
 
-byte-requires : tie.Need-byte-requires Inv-loop μ-loop
-byte-requires c κs = search needs
-
-push-requires : tie.Need-push-requires Inv-loop μ-loop
-push-requires c κs = search needs
+number-requires : tie.Need-number-requires Inv-loop μ-loop
+number-requires c κs = search needs
 
 add-i : tie.Need-add-i Inv-loop μ-loop
 add-i c = search needs
@@ -33,20 +30,23 @@ loop-again c = search needs
 same-length : tie.Need-same-length Inv-loop μ-loop
 same-length c = search needs
 
+same-length-2 : tie.Need-same-length-2 Inv-loop μ-loop
+same-length-2 c = search needs
+
 returns : tie.Need-returns Inv-loop μ-loop
 returns c = search needs
 
-pub copied-spec : {M : Type 1} → statement M
-copied-spec =
+pub numbers-spec : {M : Type 1} → statement M
+numbers-spec =
     tie.close
     (tie.spec
     Inv-loop
     μ-loop
     loop-holds
-    byte-requires
-    push-requires
+    number-requires
     add-i
     loop-less
     loop-again
     same-length
+    same-length-2
     returns)
