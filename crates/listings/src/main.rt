@@ -1,4 +1,4 @@
-// The listing of twelve pairs of files, each below its heading, for the gate to run it on what document 01's sample does not have.
+// The listing of thirteen pairs of files, each below its heading, for the gate to run it on what document 01's sample does not have.
 fn list(heading: &[u8], book: &[u8], events: &[u8]) {
     io::write_all(1, heading);
     printing::print_files(book, events, 0);
@@ -16,6 +16,8 @@ fn list(heading: &[u8], book: &[u8], events: &[u8]) {
 // - A book of no bytes; no records.
 // - 14 x 128 rows to one event, 43,008 bytes of the 65,536 that are lent, with values of ten digits: one row is 48 bytes long, and one begins where
 //   65,489 bytes are gathered.
+// - Fixed arguments: `vars s`, load 1 =3 s, drop 2 =3, clean 3 =3, `match load drop` on load(3,7), load(4,8), clean(4), drop(4), drop(3), load(3,9),
+//   clean(3), drop(3); only the fifth has a row, 7.
 // - B1 after 999,998 accepted events: two more are accepted, then a record out of form is 10, one in form 11.
 // - B1 after 900,000, and the 7,000 records, which concern nothing: 77,000 bytes of lines without a row.
 fn main() {
@@ -29,6 +31,7 @@ fn main() {
     list(b"empty\n", b"empty.txt", b"short.events");
     list(b"nothing\n", b"short.txt", b"empty.events");
     list(b"most\n", b"most.txt", b"most.events");
+    list(b"fixed\n", b"fixed.txt", b"fixed.events");
     io::write_all(1, b"late\n");
     printing::print_files(b"short.txt", b"late.events", 999998);
     io::write_all(1, b"bare\n");
