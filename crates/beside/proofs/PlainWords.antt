@@ -2,11 +2,11 @@
 -- such statement can get weaker with no call moving.
 use mathlib.Core.Path.{_≡_, refl}
 use mathlib.Core.Bool.{true, false, cond, not, _&&_, false≢true}
-use mathlib.Core.List.{List, [], _∷_, map, List·Memᴰ}
+use mathlib.Core.List.{List, [], _∷_, _++_, map, List·Memᴰ}
 use mathlib.Core.Logic.{_↔_, _⊎_, inl, inr, ⊎-elim}
-use Prim.Native.Nat.{ℕ, suc, _+_, _^_, _≤_, _<_, compare}
+use Prim.Native.Nat.{ℕ, suc, _+_, _-_, _^_, _≤_, _<_, compare}
 use lib.Dec.{eqb, leb, ltb}
-use lib.ListN.{length, getD}
+use lib.ListN.{length, getD, replicate}
 use Rattle.laws.specs.Bits.{bit}
 use Rattle.laws.specs.Lists.{any, all, keep}
 use Rattle.laws.specs.Order.{ascending}
@@ -14,7 +14,8 @@ use Rattle.runs.specs.Runs.{noCall, nextCall}
 use Rattle.runs.specs.Pairs.{Pairing}
 use Rattle.pattern.specs.Regex.{Regex, lit, cat, alt, star, plus, opt, In}
 use Rattle.pattern.specs.Positions.{size, symbols, beginning, ending, following, symbolAt, Has, Onward, stop, on, Spelling, Reach, start, next}
-use Rattle.meaning.specs.Events.{ignored, names, fixed, Symbol, Event, Valuation, wellFormed, isValuation, concerns, constraintOf}
+use Rattle.meaning.specs.Events.{ignored, names, fixed, Symbol, Event, Demand, never, demands, constraintOf}
+use Rattle.meaning.specs.Events.{Valuation, satisfies, wellFormed, isValuation, concerns}
 use Rattle.meaning.specs.Meaning.{Tracematch, noSymbol, concerning, Row}
 use Rattle.meaning.specs.Book.{Book, bookOf, positions, endsAt, symbolOf, binds, soundParameter, soundSymbol, soundMask, soundBook, Proper}
 use Rattle.meaning.specs.Labels as Labels
@@ -75,6 +76,23 @@ pub leaves-free-said : (b : Book) (held : List Held) (e : Event)
     (keep (endsAt b) (positions b))
 unfolding leavesFree
 leaves-free-said b held e = refl
+
+-- what a position gets its label from: the free disjunct where it begins, and the disjuncts of the positions that it follows
+pub sources-said : (b : Book) (held : List Held) (p q : ℕ)
+    → (sources b held q
+    ≡ cond (bit q (b .begins)) (replicate (b .variables) (free []) ∷ [])
+    [] ++ map (λ h. h .disjunct) (keep (λ h. bit q (getD (b .follows) (h .position - 1) 0)) held))
+    × (symbolOf b p ≡ getD (b .symbols) (getD (b .occurrences) (p - 1) 0) noSymbol)
+unfolding sources
+sources-said b held p q = (refl, refl)
+
+-- which variable a place binds, and when a constraint holds under a valuation
+pub binds-said : (v u n : ℕ) → (binds v ignored ≡ false) × (binds v (names u) ≡ eqb v u) × (binds v (fixed n) ≡ false)
+binds-said v u n = (refl, refl, refl)
+
+pub satisfies-said : (ds : List Demand) (σ : Valuation)
+    → (satisfies never σ ≡ false) × (satisfies (demands ds) σ ≡ all (λ d. eqb (getD σ (d .variable) 0) (d .value)) ds)
+satisfies-said ds σ = (refl, refl)
 
 -- a plain run: accepted events move the state and give something, refused ones do neither
 pub plain-run-said : {S R : Type 0} (step : S → Event → S) (give : S → Event → R) (s : S) (e : Event) (cs : List Call)

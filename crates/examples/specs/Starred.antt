@@ -236,5 +236,5 @@ table =
     ∷ reads "vars\nsym a 1 =01\nmatch a\n" 2 13
     ∷ reads "vars\nsym a 1 =\nmatch a\n" 2 13
     ∷ reads "vars\nsym a 1 =1 =2 =3 =4 =5\nmatch a\n" 3 25
-    ∷ reads "vars d\nsym a 1 =3\nmatch a\n" 8 24
+    ∷ reads "vars d\nsym a 1 =0\nmatch a\n" 8 24
     ∷ []

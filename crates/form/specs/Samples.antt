@@ -166,6 +166,9 @@ fixedNumbers =
     ∷ refuses (ascii "vars\nsym a 1 =00\n") 2 13
     ∷ refuses (ascii "vars\nsym a 1 =3x\n") 2 13
     ∷ refuses (ascii "vars\nsym a 1 =+1\n") 2 13
+    ∷ refuses (ascii "vars\nsym a 1 ==3\n") 2 13
+    ∷ refuses (ascii "vars d\nsym a 1 d=3\n") 2 15
+    ∷ refuses (ascii "vars\nsym a 1 _=3\n") 2 13
     ∷ refuses (ascii "vars\nsym a 1 =4294967296\n") 2 13
     ∷ refuses (ascii "vars\nsym a 1 =42949672950\n") 2 13
     ∷ refuses (ascii "vars\nsym a 1 =" ++ (times 3000 "9" ++ ascii "\n")) 2 13

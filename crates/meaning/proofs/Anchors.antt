@@ -1,7 +1,7 @@
 -- What the definitions compute, by computation from them alone, so that a wrong one is refused here first, because a fact is false. `starred`:
 -- every starred roast that is an event run comes out as document 01 has it; `on-the-way`, `partial-held`, `mixed-held`, `thrice-held` and `full`
--- are further cases about room and about what is held, `disjuncts-ordered` is their order; `unconcerned` and `exchanged` are cases that the
--- declarative meaning and demand 3 rule out, `independent` and `crossing` one that demand 3 covers.
+-- are further cases about room and about what is held, `disjuncts-ordered` is their order; `fixed-unbound` is what fixed places bind; `unconcerned`
+-- and `exchanged` are cases that the declarative meaning and demand 3 rule out, `independent` and `crossing` one that demand 3 covers.
 use mathlib.Core.Path.{_≡_, refl}
 use mathlib.Core.Bool.{Bool, true, false, _&&_, _||_, false≢true}
 use mathlib.Core.List.{List, [], _∷_, _++_, map}
@@ -11,13 +11,13 @@ use borrow.Author.Tests.{eqb-true}
 use lib.Dec.{eqb}
 use lib.ListN.{length, getD, replicate}
 use Rattle.laws.specs.Bits.{bit, join, meet, single}
-use Rattle.laws.specs.Lists.{all, keep, numbers}
+use Rattle.laws.specs.Lists.{any, all, keep, numbers}
 use Rattle.laws.specs.Order.{lex, ascending}
 use Rattle.laws.proofs.Order.{lt-compare, compare-order, first-differing, begun-before, lex-order}
 use Rattle.pattern.specs.Regex.{lit, cat, opt, plus}
-use Rattle.meaning.specs.Events.{Event, ignored, names, matches, constraintOf, wellFormed, isValuation, holds, concerns}
+use Rattle.meaning.specs.Events.{Event, ignored, names, fixed, matches, constraintOf, wellFormed, isValuation, holds, concerns}
 use Rattle.meaning.specs.Meaning.{Tracematch, noEvent, Row}
-use Rattle.meaning.specs.Book.{Book, bookOf, isProper, soundSymbol, positions, beginsAt, endsAt}
+use Rattle.meaning.specs.Book.{Book, bookOf, binds, boundIn, isProper, soundSymbol, positions, beginsAt, endsAt}
 use Rattle.meaning.specs.Labels.{bound, free, Disjunct, Held, valueKey, exclusions, isFree, entryOf, labelOf, heldAt, compareDisjuncts}
 use Rattle.meaning.specs.Labels.{skipBy, sources, stepSet, skipSet, newLabel, newHeld}
 use Rattle.meaning.specs.Room.{setRoom, room}
@@ -96,6 +96,14 @@ pub before-held : heldAfter
     ∷ heldAt 2 (bound 9 ∷ bound 2 ∷ []) ∷ []
 unfolding bit join single matches constraintOf bookOf compareDisjuncts skipBy sources stepSet skipSet newLabel newHeld
 before-held = refl
+
+-- a fixed place binds nothing: with `vars d`, `sym a 1 =0`, `match a` a word leaves d unbound
+pub fixed-unbound :
+    (isProper (record { variables = 1; symbols = record { kind = 1; parameters = fixed 0 ∷ [] } ∷ []; pattern = lit 0 }) ≡ false)
+    × (boundIn (fixed 0 ∷ names 2 ∷ fixed 1 ∷ []) ≡ 4)
+    × (map (λ v. any (binds v) (fixed 0 ∷ names 2 ∷ fixed 1 ∷ [])) (numbers 0 4) ≡ false ∷ false ∷ true ∷ false ∷ [])
+unfolding bit join meet single isProper soundSymbol
+fixed-unbound = (refl, refl, refl)
 
 -- `vars d`, `sym a 1 d`, `match a`, and its event with argument x
 abbrev once : Tracematch

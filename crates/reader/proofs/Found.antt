@@ -46,7 +46,7 @@ names-inside s (x ∷ xs) (w ∷ ws) e k n =
     let j = simp (length-take, length-drop) at (ap length b) in
     ap₂ _&&_ (le-leb (x .start + x .size) (length s) (omega (arith, nonempty w (a .0)))) (names-inside s xs ws (cc) (cc) (a .1))
 
--- a sound symbol has at most 4 parameters, each ignored or a declared variable
+-- a sound symbol has at most 4 parameters, each ignored, a declared variable or a fixed number
 sound-parameters : (n : ℕ) (y : Symbol) → soundSymbol n y ≡ true → (leb (length (y .parameters)) 4 ≡ true) × (all (soundParameter n) (y .parameters) ≡ true)
 unfolding soundSymbol
 sound-parameters n y h =

@@ -1,5 +1,5 @@
 // Scanning of lent bytes: what stands at a place, how far runs go, the gap after a word, words compared. For the readers of lines and
-// patterns; a word as a name or as a kind is in `words`.
+// patterns; a word as a name, as a kind or as a fixed number is in `words`.
 ghost use mathlib.Core.Path.{_≡_};
 ghost use mathlib.Core.Bool.{_&&_, not};
 ghost use Prim.Native.Nat.{_≤_};
