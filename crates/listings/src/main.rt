@@ -1,4 +1,4 @@
-// The listing of thirteen pairs of files, each below its heading, for the gate to run it on what document 01's sample does not have.
+// The listing of fourteen pairs of files, each below its heading, for the gate to run it on what document 01's sample does not have.
 fn list(heading: &[u8], book: &[u8], events: &[u8]) {
     io::write_all(1, heading);
     printing::print_files(book, events, 0);
@@ -18,6 +18,8 @@ fn list(heading: &[u8], book: &[u8], events: &[u8]) {
 //   65,489 bytes are gathered.
 // - Fixed arguments: `vars s`, load 1 =3 s, drop 2 =3, clean 3 =3, `match load drop` on load(3,7), load(4,8), clean(4), drop(4), drop(3), load(3,9),
 //   clean(3), drop(3); only the fifth has a row, 7.
+// - Fixed arguments at four places: `vars d`, a 1 =3 d _ =4, b 1 _ _ =9 d, `match a | b` on 1(3,7,9,4), 1(3,7,8,4), 1(3,7,8,5), 1(4,7,8,4), 1(5,6,9,8),
+//   and on 1(3,7,9,7), 1(3,7,9,4294967295).
 // - B1 after 999,998 accepted events: two more are accepted, then a record out of form is 10, one in form 11.
 // - B1 after 900,000, and the 7,000 records, which concern nothing: 77,000 bytes of lines without a row.
 fn main() {
@@ -32,6 +34,7 @@ fn main() {
     list(b"nothing\n", b"short.txt", b"empty.events");
     list(b"most\n", b"most.txt", b"most.events");
     list(b"fixed\n", b"fixed.txt", b"fixed.events");
+    list(b"places\n", b"places.txt", b"places.events");
     io::write_all(1, b"late\n");
     printing::print_files(b"short.txt", b"late.events", 999998);
     io::write_all(1, b"bare\n");

@@ -1,7 +1,8 @@
 -- What the definitions compute, by computation from them alone, so that a wrong one is refused here first, because a fact is false. `starred`:
 -- every starred roast that is an event run comes out as document 01 has it; `on-the-way`, `partial-held`, `mixed-held`, `thrice-held` and `full`
--- are further cases about room and about what is held, `disjuncts-ordered` is their order; `fixed-unbound` is what fixed places bind; `unconcerned`
--- and `exchanged` are cases that the declarative meaning and demand 3 rule out, `independent` and `crossing` one that demand 3 covers.
+-- are further cases about room and about what is held, `disjuncts-ordered` is their order; `fixed-unbound` is what fixed places bind, `fixed-each`
+-- what they ask; `unconcerned` and `exchanged` are cases that the declarative meaning and demand 3 rule out, `independent` and `crossing` one that
+-- demand 3 covers.
 use mathlib.Core.Path.{_≡_, refl}
 use mathlib.Core.Bool.{Bool, true, false, _&&_, _||_, false≢true}
 use mathlib.Core.List.{List, [], _∷_, _++_, map}
@@ -15,7 +16,7 @@ use Rattle.laws.specs.Lists.{any, all, keep, numbers}
 use Rattle.laws.specs.Order.{lex, ascending}
 use Rattle.laws.proofs.Order.{lt-compare, compare-order, first-differing, begun-before, lex-order}
 use Rattle.pattern.specs.Regex.{lit, cat, opt, plus}
-use Rattle.meaning.specs.Events.{Event, ignored, names, fixed, matches, constraintOf, wellFormed, isValuation, holds, concerns}
+use Rattle.meaning.specs.Events.{Symbol, Event, ignored, names, fixed, never, demands, matches, constraintOf, wellFormed, isValuation, holds, concerns}
 use Rattle.meaning.specs.Meaning.{Tracematch, noEvent, Row}
 use Rattle.meaning.specs.Book.{Book, bookOf, binds, boundIn, isProper, soundSymbol, positions, beginsAt, endsAt}
 use Rattle.meaning.specs.Labels.{bound, free, Disjunct, Held, valueKey, exclusions, isFree, entryOf, labelOf, heldAt, compareDisjuncts}
@@ -104,6 +105,15 @@ pub fixed-unbound :
     × (map (λ v. any (binds v) (fixed 0 ∷ names 2 ∷ fixed 1 ∷ [])) (numbers 0 4) ≡ false ∷ false ∷ true ∷ false ∷ [])
 unfolding bit join meet single isProper soundSymbol
 fixed-unbound = (refl, refl, refl)
+
+-- `sym a 1 _ =3 d =4`: each fixed place has its own argument, wherever it stands
+pub fixed-each : let s : Symbol = record { kind = 1; parameters = ignored ∷ fixed 3 ∷ names 0 ∷ fixed 4 ∷ [] } in
+    let of : List ℕ → Event = λ xs. record { kind = 1; args = xs } in
+    let sent = (9 ∷ 3 ∷ 7 ∷ 4 ∷ []) ∷ (9 ∷ 4 ∷ 7 ∷ 4 ∷ []) ∷ (9 ∷ 3 ∷ 7 ∷ 3 ∷ []) ∷ (9 ∷ 4 ∷ 7 ∷ 3 ∷ []) ∷ (3 ∷ 4 ∷ 7 ∷ 4 ∷ []) ∷ [] in
+    (map (λ xs. constraintOf s (of xs)) sent ≡ demands (record { variable = 0; value = 7 } ∷ []) ∷ replicate 4 never)
+    × (map (λ xs. holds s (of xs) (7 ∷ [])) sent ≡ true ∷ replicate 4 false)
+unfolding matches constraintOf holds
+fixed-each = (refl, refl)
 
 -- `vars d`, `sym a 1 d`, `match a`, and its event with argument x
 abbrev once : Tracematch

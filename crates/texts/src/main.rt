@@ -1,5 +1,5 @@
 // Every text that is one edit away from some books, and texts with two edits drawn at random, go to the reader and to the second reader:
-// numbers and places are compared, where names were declared, and what of the symbols. Prints how many there were, and the first differences.
+// numbers and places are compared, where one of the names was declared, and every symbol. Prints how many there were, and the first differences.
 use book::Book;
 use noted::declared;
 use scanner::Verdict;
@@ -168,7 +168,7 @@ fn later(a: u64, b: u64) -> u64 {
     if a < b { b } else { a }
 }
 
-// One text goes to both readers, and one of its names is asked for, with what was declared of it.
+// One text goes to both readers, and one of its names is asked for.
 fn compared(text: &[u8], work: &mut [u32], score: &mut [u32]) {
     let r = reader::read(text);
     let a = r.answer;
@@ -179,7 +179,7 @@ fn compared(text: &[u8], work: &mut [u32], score: &mut [u32]) {
     up(score, number % TEXTS);
     up(score, TEXTS);
     let name = get(score, TEXTS) % NAMES;
-    let alike = named(text, work, name) && declared_alike(b, work, name);
+    let alike = named(text, work, name) && symbols_alike(b, work);
     if number != v.number || place != v.place || !alike {
         told(text, number, place, v, get(score, DIFFERENCES));
         up(score, DIFFERENCES);
@@ -198,18 +198,23 @@ fn named(text: &[u8], work: &[u32], number: u32) -> bool {
         )
 }
 
-// Whether what the book has of a symbol is what the second reader noted of its name; a refused book has no symbols.
-fn declared_alike(b: Book, work: &[u32], number: u32) -> bool {
-    let n = number as usize;
+// Whether what the book has of each symbol is what the second reader noted of its name; a refused book has no symbols.
+fn symbols_alike(b: Book, work: &[u32]) -> bool {
     let table = b.table;
-    if n < b.variables {
-        return true;
+    let mut r = true;
+    let mut i: usize = 0;
+    while i < table::SYMBOLS {
+        if i < b.symbols {
+            let y = table[i];
+            let number = b.variables % table::NAMES + i;
+            r = r & symbol_alike(y, work, number as u32);
+        }
+        i += 1;
     }
-    let i = n - b.variables;
-    if b.symbols <= i {
-        return true;
-    }
-    let y = table[i % table::SYMBOLS];
+    r
+}
+
+fn symbol_alike(y: Symbol, work: &[u32], number: u32) -> bool {
     y.kind == declared::word(work, number, noted::KIND)
         && y.count == declared::word(work, number, noted::COUNT) as usize
         && parameters_alike(y, work, number)
@@ -227,8 +232,8 @@ fn parameters_alike(y: Symbol, work: &[u32], number: u32) -> bool {
     r
 }
 
-// A difference, if there have not been many: what the two readers answer (where they agree it is a name that differs, or what was declared
-// of it), and the text.
+// A difference, if there have not been many: what the two readers answer (where they agree it is a name that differs, or a symbol), and the
+// text.
 fn told(text: &[u8], number: usize, place: usize, v: Verdict, before: u32) {
     if PRINTED <= before {
         return;
