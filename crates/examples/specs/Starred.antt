@@ -227,14 +227,14 @@ table =
     (line (opened 1) 0 [] ∷ line (sent 1 (1 ∷ 1 ∷ 1 ∷ [])) 0 [] ∷ line (sent 1 (1 ∷ 2 ∷ 1 ∷ [])) 0 [] ∷ line (sent 1 (1 ∷ 3 ∷ 1 ∷ [])) 0 []
     ∷ line (sent 1 (1 ∷ 4 ∷ 1 ∷ [])) 0 [] ∷ line (sent 1 (1 ∷ 5 ∷ 1 ∷ [])) 0 [] ∷ line (sent 1 (1 ∷ 6 ∷ 1 ∷ [])) 0 [] ∷ line (sent 1 (1 ∷ 7 ∷ 0 ∷ [])) 0 []
     ∷ line (sent 1 (1 ∷ 7 ∷ 1 ∷ [])) 12 [] ∷ [])
-    -- ours, "`=` and a number 0 to 4294967295 without extra leading zeros; anything else after `=` is answer 2": the largest and 0, the next (0 in 32 bits),
-    -- 3 in 64 bits, an extra zero, nothing; a fifth argument is 3; a fixed argument binds nothing
-    ∷ runs "vars\nsym a 1 =4294967295 =0\nmatch a\n"
-    (line (sent 1 (4294967295 ∷ 0 ∷ [])) 0 (row 1 [] ∷ []) ∷ line (sent 1 (4294967294 ∷ 0 ∷ [])) 0 [] ∷ line (sent 1 (4294967295 ∷ 1 ∷ [])) 0 [] ∷ [])
     -- ours: fixed arguments at the first and the fourth place, beside a variable and an ignored one
     ∷ runs "vars d\nsym a 1 =3 d _ =4\nmatch a\n"
     (line (sent 1 (3 ∷ 7 ∷ 9 ∷ 4 ∷ [])) 0 (row 1 (7 ∷ []) ∷ []) ∷ line (sent 1 (3 ∷ 7 ∷ 9 ∷ 5 ∷ [])) 0 [] ∷ line (sent 1 (4 ∷ 7 ∷ 9 ∷ 4 ∷ [])) 0 []
     ∷ line (sent 1 (4 ∷ 7 ∷ 9 ∷ 3 ∷ [])) 0 [] ∷ [])
+    -- ours, "`=` and a number 0 to 4294967295 without extra leading zeros; anything else after `=` is answer 2": the largest and 0, the next (0 in 32 bits),
+    -- 3 in 64 bits, an extra zero, nothing; a fifth argument is 3; a fixed argument binds nothing
+    ∷ runs "vars\nsym a 1 =4294967295 =0\nmatch a\n"
+    (line (sent 1 (4294967295 ∷ 0 ∷ [])) 0 (row 1 [] ∷ []) ∷ line (sent 1 (4294967294 ∷ 0 ∷ [])) 0 [] ∷ line (sent 1 (4294967295 ∷ 1 ∷ [])) 0 [] ∷ [])
     ∷ reads "vars\nsym a 1 =4294967296\nmatch a\n" 2 13
     ∷ reads "vars\nsym a 1 =18446744073709551619\nmatch a\n" 2 13
     ∷ reads "vars\nsym a 1 =01\nmatch a\n" 2 13

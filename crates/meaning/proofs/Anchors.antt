@@ -109,7 +109,7 @@ fixed-unbound = (refl, refl, refl)
 -- `sym a 1 _ =3 d =4`: each fixed place has its own argument, wherever it stands
 pub fixed-each : let s : Symbol = record { kind = 1; parameters = ignored ∷ fixed 3 ∷ names 0 ∷ fixed 4 ∷ [] } in
     let of : List ℕ → Event = λ xs. record { kind = 1; args = xs } in
-    let sent = (9 ∷ 3 ∷ 7 ∷ 4 ∷ []) ∷ (9 ∷ 4 ∷ 7 ∷ 4 ∷ []) ∷ (9 ∷ 3 ∷ 7 ∷ 3 ∷ []) ∷ (9 ∷ 4 ∷ 7 ∷ 3 ∷ []) ∷ (3 ∷ 4 ∷ 7 ∷ 4 ∷ []) ∷ [] in
+    let sent : List (List ℕ) = (9 ∷ 3 ∷ 7 ∷ 4 ∷ []) ∷ (9 ∷ 4 ∷ 7 ∷ 4 ∷ []) ∷ (9 ∷ 3 ∷ 7 ∷ 3 ∷ []) ∷ (9 ∷ 4 ∷ 7 ∷ 3 ∷ []) ∷ (3 ∷ 4 ∷ 7 ∷ 4 ∷ []) ∷ [] in
     (map (λ xs. constraintOf s (of xs)) sent ≡ demands (record { variable = 0; value = 7 } ∷ []) ∷ replicate 4 never)
     × (map (λ xs. holds s (of xs) (7 ∷ [])) sent ≡ true ∷ replicate 4 false)
 unfolding matches constraintOf holds
