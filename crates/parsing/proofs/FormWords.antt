@@ -20,11 +20,11 @@ use Rattle.meaning.specs.Events.{Parameter, ignored, names, fixed}
 use Rattle.meaning.specs.Meaning.{noSymbol}
 use Rattle.meaning.specs.Book as Book
 use Rattle.meaning.specs.Book.{soundParameter, soundSymbol}
-use Rattle.form.specs.Text.{Bytes, lf, isLower, isDigit, isNameByte, isName, ascii, decimal, SymbolLine, Declarations, text, header, symbolOf}
+use Rattle.form.specs.Text.{Bytes, isLower, isDigit, isNameByte, isName, ascii, decimal, SymbolLine, Declarations, text, header, symbolOf}
 use Rattle.form.specs.Text.{spaced, parameterWord, varsLine, symLine, Span, variableSpans, symbolSpans, spans}
 use Rattle.form.specs.Form.{sameWord, distinct, symbolNames, allNames, binds, Shape, Form}
 use Rattle.form.specs.Scan.{run, isSpace, isWordByte, value, isNumber}
-use Rattle.form.specs.Tokens.{Token, name, sign, tokensAfter, tokens}
+use Rattle.form.specs.Tokens.{name, sign, tokensAfter, tokens}
 use Rattle.form.specs.Phrase.{Phrase, alternation}
 use Rattle.parsing.proofs.Scans.{same-word}
 use Rattle.parsing.proofs.Numerals.{decimal-tenth, number-read, number-found}

@@ -1,27 +1,25 @@
 -- What a sound book and a sound state give: counts within their arrays, sound views, declared variables at the places of symbols,
 -- and positions of the book. For the event call.
 use mathlib.Core.Path.{_≡_, sym, ap₂, _∙_}
-use mathlib.Core.Bool.{Bool, true, _&&_, and-eq-true-iff}
+use mathlib.Core.Bool.{true, _&&_, and-eq-true-iff}
 use mathlib.Core.List.{map}
 use Prim.Native.Nat.{ℕ, _≤_}
 use native.Mathlib.Omega.{arith}
-use borrow.Author.Tests.{leb-true, le-leb}
+use borrow.Author.Tests.{leb-true}
 use lib.Dec.{leb}
-use lib.ListN.{length, take, length-take}
+use lib.ListN.{take}
 use Rattle.laws.specs.Lists.{all}
 use Rattle.laws.proofs.Lists.{and-true-split, all-at, all-of, all-map}
 use Rattle.meaning.specs.Book.{soundParameter, soundSymbol, soundBook}
-use Rattle.meaning.specs.Sound.{soundDisjunct, soundPiece, soundHeld, soundState}
+use Rattle.meaning.specs.Sound.{soundHeld, soundState}
 use Rattle.table.specs.declared.Symbol.{Symbol}
 use Rattle.table.specs.Tables.{viewSymbol}
 use Rattle.table.proofs.Codes.{parameter-wide}
-use Rattle.disjunct.specs.Disjuncts.{viewDisjunct}
 use Rattle.book.specs.declared.Book.{Book}
 use Rattle.book.specs.Books.{viewBook}
 use Rattle.state.specs.declared.State.{State}
 use Rattle.state.specs.States.{heldFirst, viewState}
 use Rattle.sound.specs.Soundness.{symbolCounts, bookCounts, bookSound, stateCounts, stateSound}
-use Rattle.sound.proofs.Parts.{pieces-parts}
 
 pub book-counts : (b : Book) → bookSound b ≡ true → (b .variables ≤ 4) × (b .symbols ≤ 16) × (b .positions ≤ 31)
 unfolding bookSound bookCounts soundBook viewBook
@@ -67,21 +65,3 @@ state-number b s h = let p = simp and-eq-true-iff at h in omega (arith, leb-true
 pub state-view : (b : Book) (s : State) → stateSound b s ≡ true → soundHeld (viewBook b) (heldFirst (b .variables) s) ≡ true
 unfolding stateSound soundState viewState
 state-view b s h = let p = simp and-eq-true-iff at h in search
-
-held-pieces : (b : Book) (s : State) → stateSound b s ≡ true → all (soundPiece (viewBook b)) (heldFirst (b .variables) s) ≡ true
-unfolding soundHeld
-held-pieces b s h = let v = state-view b s h in let p = simp and-eq-true-iff at v in search
-
-pub state-positions : (b : Book) (s : State) → length (s .positions) ≡ 128 → length (s .pool) ≡ 128 → stateSound b s ≡ true
-    → all (λ p. leb 1 p && leb p (b .positions)) (take (s .count) (s .positions)) ≡ true
-state-positions b s g k h =
-    let n = b .variables in
-    let most = length (take (b .positions) (b .occurrences)) in
-    let c = state-count b s h in
-    let range : ℕ → Bool = λ p. leb 1 p && leb p most in
-    let t = sym (pieces-parts b s (omega arith) (omega arith)) ∙ held-pieces b s h in
-    let others = all (λ d. soundDisjunct n (take n (viewDisjunct d))) (take (s .count) (s .pool)) in
-    let r = and-true-split (all range (take (s .count) (s .positions))) others t .0 in
-    all-of (λ p. leb 1 p && leb p (b .positions)) (take (s .count) (s .positions))
-    (λ p m. let q = and-true-split (leb 1 p) (leb p most) (all-at range r m) in
-    ap₂ _&&_ (q .0) (le-leb p (b .positions) (omega (arith, leb-true p most (q .1), length-take (b .positions) (b .occurrences)))))

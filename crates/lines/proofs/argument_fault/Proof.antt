@@ -45,13 +45,13 @@ returns-3 : tie.Need-returns-3
 returns-3 c = rw (signed (c .before), c .if3 .left)
 
 -- the fault of a word that is neither `_` nor begins with the sign
-unsigned : (c : tie.After-name-fault) →
+signless : (c : tie.After-name-fault) →
     let b = c .before .before .before .before .before .before in
     let n = c .name-fault .result in
     let i = indexOf (b .args .s .now) (viewTable (b .args .t) .variables) (part (b .args .s .now) (b .args .p) (b .args .e)) in
     argumentFault (b .args .s .now) (viewTable (b .args .t) .variables) (b .args .p) (b .args .e)
     ≡ cond (eqb n 0) (cond (ltb i (length (viewTable (b .args .t) .variables))) 0 5) n
-unsigned c =
+signless c =
     let f = c .before .before in
     rw (← f .before .before .is-ignored .ensures, f .before .if1 .left, ← f .is-fixed .ensures, c .before .if2 .left, ← c .name-fault .ensures)
 
@@ -59,7 +59,7 @@ name-fault-requires : tie.Need-name-fault-requires
 name-fault-requires c κs = search needs
 
 returns-4 : tie.Need-returns-4
-returns-4 c = rw (unsigned (c .before), ne-eqb _ 0 (c .if4 .taken))
+returns-4 c = rw (signless (c .before), ne-eqb _ 0 (c .if4 .taken))
 
 find-requires : tie.Need-find-requires
 find-requires c κs =
@@ -75,7 +75,7 @@ known : (c : tie.After-find) →
 known c =
     let named = c .before .before .before in
     let r = named .before .before .before .before .before .before .pre .0 in
-    rw (unsigned named, eq-eqb _ 0 (c .before .before .if4 .left), ← variable-found r _ _ (c .find .ensures), ← variables-length r)
+    rw (signless named, eq-eqb _ 0 (c .before .before .if4 .left), ← variable-found r _ _ (c .find .ensures), ← variables-length r)
 
 returns-5 : tie.Need-returns-5
 returns-5 c = rw (known (c .before), lt-ltb _ _ (c .if5 .taken))
