@@ -1,5 +1,5 @@
--- What a sound book and a sound state give: counts within their arrays, sound views, declared variables at the places of symbols,
--- and positions of the book. For the event call.
+-- What a sound book and a sound state give: counts within their arrays, sound views, declared variables at the places of symbols. For the event
+-- call.
 use mathlib.Core.Path.{_≡_, sym, ap₂, _∙_}
 use mathlib.Core.Bool.{true, _&&_, and-eq-true-iff}
 use mathlib.Core.List.{map}
