@@ -13,7 +13,8 @@ use Rattle.meaning.specs.Events.{Valuation}
 use Rattle.form.specs.Text.{Bytes}
 use Rattle.row.specs.RowBytes.{rowSize, numberSize, wordBytes, bytesOf, withValues, plainRow, rowBytes}
 use Rattle.row.specs.declared.RowFields.{RowFields}
-use Rattle.row.proofs.RowBytes.{gather-length, word-length, bytes-length}
+use Rattle.laws.proofs.Fronts.{gather-length}
+use Rattle.row.proofs.RowBytes.{word-length, bytes-length}
 
 -- variable count, bytes 5 and 6, a zero, four values
 unfoldable pub tail : (variables byte5 byte6 : ℕ) → Valuation → Bytes

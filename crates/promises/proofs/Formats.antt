@@ -18,7 +18,8 @@ use Rattle.form.specs.Text.{Bytes}
 use Rattle.record.specs.Records.{wordAt, argumentsIn, isRecord, eventIn}
 use Rattle.record.proofs.Records.{record-form, form-record}
 use Rattle.row.specs.RowBytes.{wordBytes, bytesOf, rowBytes}
-use Rattle.row.proofs.RowBytes.{gather-length, row-length}
+use Rattle.laws.proofs.Fronts.{gather-length}
+use Rattle.row.proofs.RowBytes.{row-length}
 use Rattle.promises.proofs.Whether.{whether}
 use Rattle.promises.specs.Formats.{wordFrom, InRecord, eventOfBytes, WordAt, RowAt, RowsIn}
 

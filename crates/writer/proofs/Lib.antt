@@ -1,4 +1,2 @@
--- Laws for the functions of this crate: a list written over from its front, element by element, part by part and through a lent part
--- (Fronts), and the turn of the loop over rows (Turns).
-pub mod Fronts
+-- Laws for the functions of this crate: the turn of the loop over rows (Turns).
 pub mod Turns

@@ -5,7 +5,7 @@ use native.Mathlib.Omega.{arith}
 use borrow.Author.Needs.{needs}
 use lib.ListN.{length, take, getD, set}
 use Rattle.laws.specs.Parts.{front}
-use Rattle.writer.proofs.Fronts.{front-nothing, front-next, front-all}
+use Rattle.laws.proofs.Fronts.{front-nothing, front-next, front-all}
 use Rattle.writer.proofs.put_row.Statement.{statement}
 use Rattle.writer.proofs.put_row.Tie as tie
 

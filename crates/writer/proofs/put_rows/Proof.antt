@@ -8,7 +8,7 @@ use Rattle.laws.specs.Lists.{gather}
 use Rattle.laws.specs.Parts.{front}
 use Rattle.rows.specs.Valuations.{valuationsIn}
 use Rattle.row.specs.RowBytes.{bytesOf, withValues}
-use Rattle.writer.proofs.Fronts.{front-nothing, lent-front}
+use Rattle.laws.proofs.Fronts.{front-nothing, lent-front}
 use Rattle.writer.proofs.Turns.{rows-next}
 use Rattle.writer.proofs.put_rows.Statement.{statement}
 use Rattle.writer.proofs.put_rows.Tie as tie

@@ -5,7 +5,7 @@ use lib.ListN.{take}
 use Rattle.laws.specs.Lists.{gather}
 use Rattle.rows.specs.Valuations.{valuationsIn}
 use Rattle.row.specs.RowBytes.{bytesOf, withValues}
-use Rattle.writer.proofs.Fronts.{lent-front}
+use Rattle.laws.proofs.Fronts.{lent-front}
 use Rattle.writer.proofs.write_rows.Statement.{statement}
 use Rattle.writer.proofs.write_rows.Tie as tie
 
