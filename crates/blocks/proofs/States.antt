@@ -103,7 +103,7 @@ canonical-of s few each =
     }
 
 -- an element of a padded list is one of the list, or the padding
-mem-pad : {A : Type 0} (P : A → Type 0) (n : ℕ) (d : A) (l : List A) → ((x : A) → List·Memᴰ x l → P x) → P d → (x : A) → List·Memᴰ x (pad n d l) → P x
+pub mem-pad : {A : Type 0} (P : A → Type 0) (n : ℕ) (d : A) (l : List A) → ((x : A) → List·Memᴰ x l → P x) → P d → (x : A) → List·Memᴰ x (pad n d l) → P x
 unfolding pad
 mem-pad {A = A} P n d l h k x m =
     ⊎-elim (h x) (λ r. subst P (sym (copies (n - length l) r)) k) (List·Memᴰ·append-cases l m)
