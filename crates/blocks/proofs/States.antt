@@ -196,6 +196,18 @@ module _ (w : List ℕ) (long : length w ≡ 3715) (s : State) (c : Canonical s)
   front-long : length (front P (take 128 (drop 3 w))) ≡ 128
   front-long = front-length P (take 128 (drop 3 w)) (omega (arith, length-take m (s .positions), positions-long s c, first-long)) ∙ first-long
 
+  pub stored-length : length (stateStored w s) ≡ 3715
+  stored-length =
+      let behind : length (drop 131 w) ≡ 3584 = length-drop 131 w ∙ omega arith in
+      let short : length G ≤ 3584 =
+      omega (arith, gather-length groupWords 28 (take m (s .pool)) (λ d k. each-place s c d (mem-take m k) .size), length-take m (s .pool), pool-long s c) in
+      ap length stored-parts
+      ∙ omega (arith, length-append (front P (take 128 (drop 3 w))) (front G (drop 131 w)), front-long, front-length G (drop 131 w) (omega arith))
+
+  -- the head of it
+  pub stored-head : (getD (stateStored w s) 0 0 ≡ 2001) × (getD (stateStored w s) 1 0 ≡ s .number) × (getD (stateStored w s) 2 0 ≡ s .count)
+  stored-head = (ap (λ l. getD l 0 0) stored-parts, ap (λ l. getD l 1 0) stored-parts, ap (λ l. getD l 2 0) stored-parts)
+
   held-positions : take (s .count) (front P (take 128 (drop 3 w))) ≡ c .positions
   unfolding front
   held-positions =

@@ -2,3 +2,5 @@
 -- the demands for lists of lent calls (Demands).
 pub mod Accepted
 pub mod Reading
+pub mod Seen
+pub mod Demands

@@ -36,8 +36,15 @@ lined-four l h = pad-length 4 _ (map Bench.coded (l .parameters)) (omega (arith,
 module _ (text : Bytes) (d : Declarations) (r : Regex) (f : Form text d r) where
   spans-few : length (spans d) ≤ 20
   spans-few =
-      omega (arith, sym (length-map (spans d) (bytesAt text)), ap length (Accepted.names-placed text d r (f .shape)),
-      length-append (d .variables) (map (λ l. l .name) (d .symbols)), length-map (d .symbols) (λ l. l .name), f .shape .fewVariables, f .shape .fewSymbols)
+      omega (
+        arith,
+        sym (length-map (spans d) (bytesAt text)),
+        ap length (Accepted.names-placed text d r (f .shape)),
+        length-append (d .variables) (map (λ l. l .name) (d .symbols)),
+        length-map (d .symbols) (λ l. l .name),
+        f .shape .fewVariables,
+        f .shape .fewSymbols,
+      )
 
   few-parameters : (l : SymbolLine) → List·Memᴰ l (d .symbols) → length (l .parameters) ≤ 4
   unfolding soundSymbol
