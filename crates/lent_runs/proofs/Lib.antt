@@ -4,3 +4,4 @@ pub mod Accepted
 pub mod Reading
 pub mod Seen
 pub mod Demands
+pub mod Checks
