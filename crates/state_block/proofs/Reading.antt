@@ -1,5 +1,5 @@
--- Words read: a slot out of seven of them, an array filled with what is made of each group, and a count above the capacity. For the functions
--- that take a state out of lent words.
+-- Words read: a slot out of seven of them, an array filled with what is made of each group, an array of fillers written over, and the state
+-- of what is read. For the functions that take a state out of lent words.
 use mathlib.Core.Path.{_≡_, refl, sym, ap, ap₂, _∙_}
 use mathlib.Core.Bool.{Bool, true, false, cond}
 use mathlib.Core.List.{List, [], _∷_, _++_, map}
@@ -59,7 +59,7 @@ module _ {A : Type 0} (f : List ℕ → A) (k n : ℕ) (z : A) (w : List ℕ) wh
 
 module _ {A : Type 0} where
   -- a count above what there is
-  pub take-least : (n m : ℕ) (l : List A) → length l ≤ m → take (min n m) l ≡ take n l
+  take-least : (n m : ℕ) (l : List A) → length l ≤ m → take (min n m) l ≡ take n l
   take-least n m l h = go (leb n m) refl
     where
       go : (b : Bool) → leb n m ≡ b → take (min n m) l ≡ take n l

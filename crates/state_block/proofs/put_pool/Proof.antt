@@ -9,9 +9,8 @@ use Rattle.laws.specs.Lists.{gather}
 use Rattle.laws.specs.Parts.{front}
 use Rattle.laws.proofs.Fronts.{front-nothing, lent-front, front-more}
 use Rattle.disjunct.specs.declared.Disjunct.{Disjunct}
-use Rattle.disjunct.proofs.Disjuncts.{sized-in}
 use Rattle.blocks.specs.StateBlock.{groupWords}
-use Rattle.state_block.proofs.Writing.{group-sized}
+use Rattle.state_block.proofs.Writing.{pool-sized}
 use Rattle.state_block.proofs.put_pool.Statement.{statement}
 use Rattle.state_block.proofs.put_pool.Tie as tie
 
@@ -65,7 +64,7 @@ loop-again c =
       search needs,
       search needs,
       lent-front (28 * i) (groupWords (getD pool i z)) (turn .loop .words) (omega arith) (c .before .before .put-group .ensures)
-          ∙ front-more groupWords 28 pool (λ d m. group-sized d (sized-in pool (start .good .1 .0 .0) (start .good .1 .0 .1 .1) d m)) i z (start .args .words .now)
+          ∙ front-more groupWords 28 pool (pool-sized pool (start .good .1 .0 .0) (start .good .1 .0 .1 .1)) i z (start .args .words .now)
           (omega arith) (omega arith) refl (turn .loop .inv .2),
     )
 
