@@ -1,0 +1,1 @@
+-- Laws for the functions of this crate.

@@ -1,0 +1,70 @@
+use borrow.Author.Needs.{needs}
+use Rattle.book_block.proofs.put_head.Statement.{statement}
+use Rattle.book_block.proofs.put_head.Tie as tie
+use Rattle.book_block.proofs.put_head.Reads as reads
+use Rattle.book_block.proofs.put_head.Lts as lts
+
+-- src/lib.rt:241:5
+slice-write-words : tie.Need-slice-write-words
+slice-write-words c = search needs
+
+-- src/lib.rt:242:16
+cast-words : tie.Need-cast-words
+cast-words c = search needs
+
+-- src/lib.rt:242:5
+slice-write-words-2 : tie.Need-slice-write-words-2
+slice-write-words-2 c = search needs
+
+-- src/lib.rt:243:16
+cast-words-2 : tie.Need-cast-words-2
+cast-words-2 c = search needs
+
+-- src/lib.rt:243:5
+slice-write-words-3 : tie.Need-slice-write-words-3
+slice-write-words-3 c = search needs
+
+-- src/lib.rt:244:16
+cast-words-3 : tie.Need-cast-words-3
+cast-words-3 c = search needs
+
+-- src/lib.rt:244:5
+slice-write-words-4 : tie.Need-slice-write-words-4
+slice-write-words-4 c = search needs
+
+-- src/lib.rt:245:5
+slice-write-words-5 : tie.Need-slice-write-words-5
+slice-write-words-5 c = search needs
+
+-- src/lib.rt:246:5
+slice-write-words-6 : tie.Need-slice-write-words-6
+slice-write-words-6 c = search needs
+
+-- src/lib.rt:247:5
+slice-write-words-7 : tie.Need-slice-write-words-7
+slice-write-words-7 c = search needs
+
+-- src/lib.rt:237:1
+same-length : tie.Need-same-length
+same-length c = search needs
+
+-- src/lib.rt:237:1
+returns : tie.Need-returns
+returns c = search needs
+
+pub put-head-spec : {M : Type 1} → statement M
+put-head-spec =
+    tie.close
+    (tie.spec
+    slice-write-words
+    cast-words
+    slice-write-words-2
+    cast-words-2
+    slice-write-words-3
+    cast-words-3
+    slice-write-words-4
+    slice-write-words-5
+    slice-write-words-6
+    slice-write-words-7
+    same-length
+    returns)
