@@ -2,7 +2,7 @@
 -- the functions that take a book or a state out of lent words (book_block, state_block).
 use mathlib.Core.Path.{_≡_, refl, sym, ap, _∙_}
 use mathlib.Core.List.{List, [], map}
-use Prim.Native.Nat.{ℕ, zero, suc, _+_, _*_, _≤_, _<_}
+use Prim.Native.Nat.{ℕ, zero, suc, _+_, _-_, _*_, _≤_, _<_}
 use native.Mathlib.Omega.{arith}
 use lib.ListN.{length, take, drop, getD, set}
 use lib.Seq.{take-all, drop-drop}
@@ -21,12 +21,13 @@ groups-at k (suc n) w (suc i) h =
     groups-at k n (drop k w) i (omega arith) ∙ ap (take k) (drop-drop (k * i) k w ∙ ap (λ j. drop j w) e)
 
 module _ {A : Type 0} (f : List ℕ → A) (k n : ℕ) (w : List ℕ) (i : ℕ) (r : List A) where
-  -- the i-th group, read into its place
-  pub groups-more : {x : A} → i < n → length r ≡ n → take i r ≡ map f (take i (groups k n w)) → x ≡ f (take k (drop (k * i) w))
+  -- the i-th group, lent from its beginning to its end, and what is read there put into its place
+  pub groups-more : {x : A} → i < n → length r ≡ n → take i r ≡ map f (take i (groups k n w)) → x ≡ f (take (k * i + k - k * i) (drop (k * i) w))
       → take (i + 1) (set r i x) ≡ map f (take (i + 1) (groups k n w))
   groups-more h size before made =
       let many : length (groups k n w) ≡ n = groups-length k n w in
-      ap (λ y. take (i + 1) (set r i y)) (made ∙ ap f (sym (groups-at k n w i h)))
+      let wide : k * i + k - k * i ≡ k = omega arith in
+      ap (λ y. take (i + 1) (set r i y)) (made ∙ ap f (ap (λ m. take m (drop (k * i) w)) wide ∙ sym (groups-at k n w i h)))
       ∙ fill-more f (groups k n w) r i [] (omega arith) (omega arith) before
 
   -- all of them

@@ -1,4 +1,12 @@
+use mathlib.Core.Path.{_≡_, refl}
+use mathlib.Core.List.{map}
+use Prim.Native.Nat.{_-_, _≤_}
+use native.Mathlib.Omega.{arith}
 use borrow.Author.Needs.{needs}
+use lib.ListN.{length, take}
+use Rattle.blocks.specs.Groups.{groups}
+use Rattle.blocks.specs.BookBlock.{nameIn}
+use Rattle.blocks.proofs.Groups.{groups-more, groups-all}
 use Rattle.book_block.proofs.names_in.Statement.{statement}
 use Rattle.book_block.proofs.names_in.Tie as tie
 use Rattle.book_block.proofs.names_in.Reads as reads
@@ -6,10 +14,10 @@ use Rattle.book_block.proofs.names_in.Lts as lts
 use Rattle.book_block.proofs.name_in.Reads as name-in-reads
 
 abbrev Inv-loop : tie.InvT-loop
-Inv-loop words names₀ i₀ names i = ?
+Inv-loop words names₀ i₀ names i = (i ≤ 20) × (length names ≡ 20) × (take i names ≡ map nameIn (take i (groups 2 20 words)))
 
 abbrev μ-loop : tie.MeasureT-loop
-μ-loop words names₀ i₀ names i = ?
+μ-loop words names₀ i₀ names i = 20 - i
 
 -- src/lib.rt:64:5
 loop-holds : tie.Need-loop-holds Inv-loop μ-loop
@@ -61,11 +69,19 @@ loop-less c = search needs
 
 -- src/lib.rt:64:5
 loop-again : tie.Need-loop-again Inv-loop μ-loop
-loop-again c = search needs
+loop-again c =
+    let turn = c .before .before .before in
+    let loop = turn .loop in (
+      search needs,
+      search needs,
+      groups-more nameIn 2 20 (turn .before .before .args .words .now) (loop .i) (loop .names) (omega arith) (loop .inv .1) (loop .inv .2) (c .name-in .ensures),
+    )
 
 -- src/lib.rt:57:1
 returns : tie.Need-returns Inv-loop μ-loop
-returns c = search needs
+returns c =
+    let loop = c .before .loop in
+    groups-all nameIn 2 20 (c .before .before .before .args .words .now) (loop .i) (loop .names) (omega arith) (loop .inv .1) (loop .inv .2)
 
 pub names-in-spec : {M : Type 1} → statement M
 names-in-spec =

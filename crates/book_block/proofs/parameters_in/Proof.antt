@@ -1,4 +1,12 @@
+use mathlib.Core.Path.{_≡_, refl}
+use mathlib.Core.List.{map}
+use Prim.Native.Nat.{_-_, _≤_}
+use native.Mathlib.Omega.{arith}
 use borrow.Author.Needs.{needs}
+use lib.ListN.{length, take}
+use Rattle.blocks.specs.Groups.{groups}
+use Rattle.blocks.specs.BookBlock.{parameterIn}
+use Rattle.blocks.proofs.Groups.{groups-more, groups-all}
 use Rattle.book_block.proofs.parameters_in.Statement.{statement}
 use Rattle.book_block.proofs.parameters_in.Tie as tie
 use Rattle.book_block.proofs.parameters_in.Reads as reads
@@ -6,10 +14,10 @@ use Rattle.book_block.proofs.parameters_in.Lts as lts
 use Rattle.book_block.proofs.parameter_in.Reads as parameter-in-reads
 
 abbrev Inv-loop : tie.InvT-loop
-Inv-loop words parameters₀ i₀ parameters i = ?
+Inv-loop words parameters₀ i₀ parameters i = (i ≤ 4) × (length parameters ≡ 4) × (take i parameters ≡ map parameterIn (take i (groups 2 4 words)))
 
 abbrev μ-loop : tie.MeasureT-loop
-μ-loop words parameters₀ i₀ parameters i = ?
+μ-loop words parameters₀ i₀ parameters i = 4 - i
 
 -- src/lib.rt:90:5
 loop-holds : tie.Need-loop-holds Inv-loop μ-loop
@@ -61,11 +69,19 @@ loop-less c = search needs
 
 -- src/lib.rt:90:5
 loop-again : tie.Need-loop-again Inv-loop μ-loop
-loop-again c = search needs
+loop-again c =
+    let turn = c .before .before .before in
+    let loop = turn .loop in (
+      search needs,
+      search needs,
+      groups-more parameterIn 2 4 (turn .before .before .args .words .now) (loop .i) (loop .parameters) (omega arith) (loop .inv .1) (loop .inv .2) (c .parameter-in .ensures),
+    )
 
 -- src/lib.rt:83:1
 returns : tie.Need-returns Inv-loop μ-loop
-returns c = search needs
+returns c =
+    let loop = c .before .loop in
+    groups-all parameterIn 2 4 (c .before .before .before .args .words .now) (loop .i) (loop .parameters) (omega arith) (loop .inv .1) (loop .inv .2)
 
 pub parameters-in-spec : {M : Type 1} → statement M
 parameters-in-spec =

@@ -1,4 +1,13 @@
+use mathlib.Core.Path.{_≡_, ap, _∙_}
+use mathlib.Core.List.{[], _∷_}
+use mathlib.Core.Logic.{⊎-elim}
+use native.Mathlib.Omega.{arith}
 use borrow.Author.Needs.{needs}
+use lib.ListN.{length-set}
+use lib.Seq.{sets-eq}
+use Rattle.laws.specs.Parts.{front}
+use Rattle.blocks.specs.BookBlock.{bookHead, flag}
+use Rattle.book_block.proofs.Splits.{book-numbers}
 use Rattle.book_block.proofs.put_head.Statement.{statement}
 use Rattle.book_block.proofs.put_head.Tie as tie
 use Rattle.book_block.proofs.put_head.Reads as reads
@@ -10,7 +19,7 @@ slice-write-words c = search needs
 
 -- src/lib.rt:242:16
 cast-words : tie.Need-cast-words
-cast-words c = search needs
+cast-words c = omega (arith, book-numbers (c .args .b) (c .pre .1))
 
 -- src/lib.rt:242:5
 slice-write-words-2 : tie.Need-slice-write-words-2
@@ -18,7 +27,7 @@ slice-write-words-2 c = search needs
 
 -- src/lib.rt:243:16
 cast-words-2 : tie.Need-cast-words-2
-cast-words-2 c = search needs
+cast-words-2 c = omega (arith, book-numbers (c .args .b) (c .pre .1))
 
 -- src/lib.rt:243:5
 slice-write-words-3 : tie.Need-slice-write-words-3
@@ -26,7 +35,7 @@ slice-write-words-3 c = search needs
 
 -- src/lib.rt:244:16
 cast-words-3 : tie.Need-cast-words-3
-cast-words-3 c = search needs
+cast-words-3 c = omega (arith, book-numbers (c .args .b) (c .pre .1))
 
 -- src/lib.rt:244:5
 slice-write-words-4 : tie.Need-slice-write-words-4
@@ -34,15 +43,15 @@ slice-write-words-4 c = search needs
 
 -- src/lib.rt:245:5
 slice-write-words-5 : tie.Need-slice-write-words-5
-slice-write-words-5 c = search needs
+slice-write-words-5 c = simp length-set (omega arith)
 
 -- src/lib.rt:246:5
 slice-write-words-6 : tie.Need-slice-write-words-6
-slice-write-words-6 c = search needs
+slice-write-words-6 c = simp length-set (omega arith)
 
 -- src/lib.rt:247:5
 slice-write-words-7 : tie.Need-slice-write-words-7
-slice-write-words-7 c = search needs
+slice-write-words-7 c = simp length-set (omega arith)
 
 -- src/lib.rt:237:1
 same-length : tie.Need-same-length
@@ -50,7 +59,13 @@ same-length c = search needs
 
 -- src/lib.rt:237:1
 returns : tie.Need-returns
-returns c = search needs
+unfolding front
+returns c =
+    let start = c .before in
+    let b = start .args .b in
+    let e : c .if1 .words ≡ flag (b .empty) = ⊎-elim (λ w. ?) (λ w. ?) (c .if1 .came) in
+    sets-eq (1001 ∷ b .variables ∷ b .symbols ∷ b .positions ∷ b .begins ∷ b .ends ∷ c .if1 .words ∷ []) (start .args .words .now) 0 (omega arith)
+    ∙ ?
 
 pub put-head-spec : {M : Type 1} → statement M
 put-head-spec =

@@ -1,4 +1,15 @@
+use mathlib.Core.Path.{_≡_, refl, sym, ap, _∙_}
+use Prim.Native.Nat.{_*_, _-_, _≤_}
+use native.Mathlib.Omega.{arith}
 use borrow.Author.Needs.{needs}
+use lib.ListN.{length, take}
+use lib.Seq.{take-all}
+use Rattle.laws.specs.Lists.{gather}
+use Rattle.laws.specs.Parts.{front}
+use Rattle.laws.proofs.Lists.{all-at, mem-getD}
+use Rattle.laws.proofs.Fronts.{front-nothing, lent-front, front-more}
+use Rattle.blocks.specs.BookBlock.{nameWords}
+use Rattle.book_block.specs.Fits.{nameFits}
 use Rattle.book_block.proofs.put_names.Statement.{statement}
 use Rattle.book_block.proofs.put_names.Tie as tie
 use Rattle.book_block.proofs.put_names.Reads as reads
@@ -6,14 +17,14 @@ use Rattle.book_block.proofs.put_names.Lts as lts
 use Rattle.book_block.proofs.put_name.Reads as put-name-reads
 
 abbrev Inv-loop : tie.InvT-loop
-Inv-loop words₀ names i₀ words i = ?
+Inv-loop words₀ names i₀ words i = (i ≤ 20) × (length words ≡ length words₀) × (words ≡ front (gather nameWords (take i names)) words₀)
 
 abbrev μ-loop : tie.MeasureT-loop
-μ-loop words₀ names i₀ words i = ?
+μ-loop words₀ names i₀ words i = 20 - i
 
 -- src/lib.rt:184:5
 loop-holds : tie.Need-loop-holds Inv-loop μ-loop
-loop-holds c = search needs
+loop-holds c = (search needs, search needs, sym (front-nothing _))
 
 -- src/lib.rt:185:18
 mul-at : tie.Need-mul-at Inv-loop μ-loop
@@ -45,7 +56,10 @@ part-put-name-end c = search needs
 
 -- src/lib.rt:187:9
 put-name-requires : tie.Need-put-name-requires Inv-loop μ-loop
-put-name-requires c κs = search needs
+put-name-requires c κs =
+    let turn = c .before .before .before in
+    let start = turn .before .before in
+    (search needs, all-at nameFits (start .pre .1) (mem-getD (start .args .t2) (turn .loop .i) _ (omega arith)))
 
 -- src/lib.rt:188:9
 add-i : tie.Need-add-i Inv-loop μ-loop
@@ -57,7 +71,15 @@ loop-less c = search needs
 
 -- src/lib.rt:184:5
 loop-again : tie.Need-loop-again Inv-loop μ-loop
-loop-again c = search needs
+loop-again c =
+    let turn = c .before .before .before .before .before .before in
+    let start = turn .before .before .args in
+    let i = turn .loop .i in (
+      search needs,
+      search needs,
+      lent-front (2 * i) _ (turn .loop .words) (omega arith) (c .before .before .put-name .ensures)
+          ∙ front-more nameWords 2 (start .t2) (λ x m. refl) i _ (start .words .now) (omega arith) (omega arith) refl (turn .loop .inv .2),
+    )
 
 -- src/lib.rt:179:1
 same-length : tie.Need-same-length Inv-loop μ-loop
@@ -65,7 +87,9 @@ same-length c = search needs
 
 -- src/lib.rt:179:1
 returns : tie.Need-returns Inv-loop μ-loop
-returns c = search needs
+returns c =
+    let start = c .before .before .before .args in
+    c .before .loop .inv .2 ∙ ap (λ r. front (gather nameWords r) (start .words .now)) (take-all (c .before .loop .i) (start .t2) (omega arith))
 
 pub put-names-spec : {M : Type 1} → statement M
 put-names-spec =
