@@ -4,10 +4,14 @@ use mathlib.Core.Path.{_≡_, refl, sym, ap, _∙_}
 use mathlib.Core.List.{List, [], map}
 use Prim.Native.Nat.{ℕ, zero, suc, _+_, _-_, _*_, _≤_, _<_}
 use native.Mathlib.Omega.{arith}
-use lib.ListN.{length, take, drop, getD, set}
+use lib.ListN.{length, take, drop, getD, set, length-drop}
 use lib.Seq.{take-all, drop-drop}
 use Rattle.laws.proofs.Fills.{fill-more}
 use Rattle.blocks.specs.Groups.{groups}
+
+-- a part that is lent to the end has all that is behind its beginning
+pub lent-rest : (p : ℕ) (w : List ℕ) → take (length w - p) (drop p w) ≡ drop p w
+lent-rest p w = take-all (length w - p) (drop p w) (omega (arith, length-drop p w))
 
 pub groups-length : (k n : ℕ) (w : List ℕ) → length (groups k n w) ≡ n
 groups-length k zero w = refl

@@ -1,12 +1,13 @@
-use mathlib.Core.Path.{_≡_, ap, _∙_}
-use mathlib.Core.List.{[], _∷_}
+use mathlib.Core.Path.{_≡_, sym, ap, _∙_}
+use mathlib.Core.List.{List, [], _∷_}
 use mathlib.Core.Logic.{⊎-elim}
+use Prim.Native.Nat.{ℕ}
 use native.Mathlib.Omega.{arith}
 use borrow.Author.Needs.{needs}
 use lib.ListN.{length-set}
 use lib.Seq.{sets-eq}
 use Rattle.laws.specs.Parts.{front}
-use Rattle.blocks.specs.BookBlock.{bookHead, flag}
+use Rattle.blocks.specs.BookBlock.{flag}
 use Rattle.book_block.proofs.Splits.{book-numbers}
 use Rattle.book_block.proofs.put_head.Statement.{statement}
 use Rattle.book_block.proofs.put_head.Tie as tie
@@ -63,9 +64,9 @@ unfolding front
 returns c =
     let start = c .before in
     let b = start .args .b in
-    let e : c .if1 .words ≡ flag (b .empty) = ⊎-elim (λ w. ?) (λ w. ?) (c .if1 .came) in
-    sets-eq (1001 ∷ b .variables ∷ b .symbols ∷ b .positions ∷ b .begins ∷ b .ends ∷ c .if1 .words ∷ []) (start .args .words .now) 0 (omega arith)
-    ∙ ?
+    let with : ℕ → List ℕ = λ x. 1001 ∷ b .variables ∷ b .symbols ∷ b .positions ∷ b .begins ∷ b .ends ∷ x ∷ [] in
+    let e : c .if1 .words ≡ flag (b .empty) = ⊎-elim (λ w. w .1 ∙ sym (ap flag (w .0 .taken))) (λ w. w .1 ∙ sym (ap flag (w .0 .left))) (c .if1 .came) in
+    sets-eq (with (c .if1 .words)) (start .args .words .now) 0 (omega arith) ∙ ap (λ x. front (with x) (start .args .words .now)) e
 
 pub put-head-spec : {M : Type 1} → statement M
 put-head-spec =

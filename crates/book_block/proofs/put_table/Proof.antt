@@ -1,4 +1,15 @@
+use mathlib.Core.Path.{_≡_, refl, sym, ap, _∙_}
+use Prim.Native.Nat.{_*_, _-_, _≤_}
+use native.Mathlib.Omega.{arith}
 use borrow.Author.Needs.{needs}
+use lib.ListN.{length, take}
+use lib.Seq.{take-all}
+use Rattle.laws.specs.Lists.{gather}
+use Rattle.laws.specs.Parts.{front}
+use Rattle.laws.proofs.Lists.{all-at, mem-getD}
+use Rattle.laws.proofs.Fronts.{front-nothing, lent-front, front-more}
+use Rattle.blocks.specs.BookBlock.{symbolWords}
+use Rattle.book_block.specs.Fits.{symbolFits}
 use Rattle.book_block.proofs.put_table.Statement.{statement}
 use Rattle.book_block.proofs.put_table.Tie as tie
 use Rattle.book_block.proofs.put_table.Reads as reads
@@ -6,14 +17,14 @@ use Rattle.book_block.proofs.put_table.Lts as lts
 use Rattle.book_block.proofs.put_symbol.Reads as put-symbol-reads
 
 abbrev Inv-loop : tie.InvT-loop
-Inv-loop words₀ symbols i₀ words i = ?
+Inv-loop words₀ symbols i₀ words i = (i ≤ 16) × (length words ≡ length words₀) × (words ≡ front (gather symbolWords (take i symbols)) words₀)
 
 abbrev μ-loop : tie.MeasureT-loop
-μ-loop words₀ symbols i₀ words i = ?
+μ-loop words₀ symbols i₀ words i = 16 - i
 
 -- src/lib.rt:228:5
 loop-holds : tie.Need-loop-holds Inv-loop μ-loop
-loop-holds c = search needs
+loop-holds c = let g = c .before .good in (search needs, search needs, ?)
 
 -- src/lib.rt:229:18
 mul-at : tie.Need-mul-at Inv-loop μ-loop
@@ -45,7 +56,10 @@ part-put-symbol-end c = search needs
 
 -- src/lib.rt:231:9
 put-symbol-requires : tie.Need-put-symbol-requires Inv-loop μ-loop
-put-symbol-requires c κs = search needs
+put-symbol-requires c κs =
+    let turn = c .before .before .before in
+    let start = turn .before .before in
+    (search needs, all-at symbolFits (start .pre .1) (mem-getD (start .args .t2) (turn .loop .i) _ (omega arith)))
 
 -- src/lib.rt:232:9
 add-i : tie.Need-add-i Inv-loop μ-loop
@@ -57,7 +71,15 @@ loop-less c = search needs
 
 -- src/lib.rt:228:5
 loop-again : tie.Need-loop-again Inv-loop μ-loop
-loop-again c = search needs
+loop-again c =
+    let turn = c .before .before .before .before .before .before in
+    let start = turn .before .before .args in
+    let i = turn .loop .i in (
+      search needs,
+      search needs,
+      lent-front (10 * i) _ (turn .loop .words) (omega arith) (c .before .before .put-symbol .ensures)
+          ∙ front-more symbolWords 10 (start .t2) (λ x m. ?) i _ (start .words .now) (omega arith) (omega arith) refl (turn .loop .inv .2),
+    )
 
 -- src/lib.rt:223:1
 same-length : tie.Need-same-length Inv-loop μ-loop
@@ -65,7 +87,9 @@ same-length c = search needs
 
 -- src/lib.rt:223:1
 returns : tie.Need-returns Inv-loop μ-loop
-returns c = search needs
+returns c =
+    let start = c .before .before .before .args in
+    c .before .loop .inv .2 ∙ ap (λ r. front (gather symbolWords r) (start .words .now)) (take-all (c .before .loop .i) (start .t2) (omega arith))
 
 pub put-table-spec : {M : Type 1} → statement M
 put-table-spec =

@@ -1,4 +1,11 @@
+use mathlib.Core.Path.{ap, _∙_}
+use mathlib.Core.List.{map}
+use native.Mathlib.Omega.{arith}
 use borrow.Author.Needs.{needs}
+use lib.ListN.{getD}
+use Rattle.blocks.specs.Groups.{groups}
+use Rattle.blocks.specs.BookBlock.{parameterIn, symbolIn}
+use Rattle.blocks.proofs.Groups.{lent-rest}
 use Rattle.book_block.proofs.symbol_in.Statement.{statement}
 use Rattle.book_block.proofs.symbol_in.Tie as tie
 use Rattle.book_block.proofs.symbol_in.Reads as reads
@@ -31,11 +38,15 @@ shared-slice-read-t10 c = search needs
 
 -- src/lib.rt:106:16
 cast-t4 : tie.Need-cast-t4
-cast-t4 c = search needs
+cast-t4 c = omega (arith, c .shared-slice-known3 .given 1)
 
 -- src/lib.rt:99:1
 returns : tie.Need-returns
-returns c = search needs
+unfolding symbolIn
+returns c =
+    let w = c .before .before .before .before .before .args .words .now in
+    let rest = c .before .before .parameters-in .ensures ∙ ap (λ r. map parameterIn (groups 2 4 r)) (lent-rest 2 w) in
+    ap (λ ps. record { kind = getD w 0 0; count = getD w 1 0; parameters = ps }) rest
 
 pub symbol-in-spec : {M : Type 1} → statement M
 symbol-in-spec =

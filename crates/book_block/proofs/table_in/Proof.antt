@@ -1,4 +1,12 @@
+use mathlib.Core.Path.{_≡_}
+use mathlib.Core.List.{map}
+use Prim.Native.Nat.{_-_, _≤_}
+use native.Mathlib.Omega.{arith}
 use borrow.Author.Needs.{needs}
+use lib.ListN.{length, take}
+use Rattle.blocks.specs.Groups.{groups}
+use Rattle.blocks.specs.BookBlock.{symbolIn}
+use Rattle.blocks.proofs.Groups.{groups-more, groups-all}
 use Rattle.book_block.proofs.table_in.Statement.{statement}
 use Rattle.book_block.proofs.table_in.Tie as tie
 use Rattle.book_block.proofs.table_in.Reads as reads
@@ -7,10 +15,10 @@ use Rattle.book_block.proofs.symbol_in.Reads as symbol-in-reads
 use Rattle.table.proofs.no_symbol.Reads as no-symbol-reads
 
 abbrev Inv-loop : tie.InvT-loop
-Inv-loop words symbols₀ i₀ symbols i = ?
+Inv-loop words symbols₀ i₀ symbols i = (i ≤ 16) × (length symbols ≡ 16) × (take i symbols ≡ map symbolIn (take i (groups 10 16 words)))
 
 abbrev μ-loop : tie.MeasureT-loop
-μ-loop words symbols₀ i₀ symbols i = ?
+μ-loop words symbols₀ i₀ symbols i = 16 - i
 
 -- src/lib.rt:115:9
 no-symbol-requires : tie.Need-no-symbol-requires Inv-loop μ-loop
@@ -66,11 +74,19 @@ loop-less c = search needs
 
 -- src/lib.rt:118:5
 loop-again : tie.Need-loop-again Inv-loop μ-loop
-loop-again c = search needs
+loop-again c =
+    let turn = c .before .before .before in
+    let loop = turn .loop in (
+      search needs,
+      search needs,
+      groups-more symbolIn 10 16 (turn .before .before .before .args .words .now) (loop .i) (loop .symbols) (omega arith) (loop .inv .1) (loop .inv .2) (c .symbol-in .ensures),
+    )
 
 -- src/lib.rt:111:1
 returns : tie.Need-returns Inv-loop μ-loop
-returns c = search needs
+returns c =
+    let loop = c .before .loop in
+    groups-all symbolIn 10 16 (c .before .before .before .before .args .words .now) (loop .i) (loop .symbols) (omega arith) (loop .inv .1) (loop .inv .2)
 
 pub table-in-spec : {M : Type 1} → statement M
 table-in-spec =
