@@ -1,2 +1,5 @@
--- Laws for the functions of this crate: what it says that numbers fit into words (Splits).
+-- Laws for the functions of this crate: what it says that numbers fit into words (Splits), what types tell of symbols (Sizes), and a book of its
+-- parts (Wholes).
 pub mod Splits
+pub mod Sizes
+pub mod Wholes

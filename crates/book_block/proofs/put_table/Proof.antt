@@ -10,6 +10,7 @@ use Rattle.laws.proofs.Lists.{all-at, mem-getD}
 use Rattle.laws.proofs.Fronts.{front-nothing, lent-front, front-more}
 use Rattle.blocks.specs.BookBlock.{symbolWords}
 use Rattle.book_block.specs.Fits.{symbolFits}
+use Rattle.book_block.proofs.Sizes.{symbols-words}
 use Rattle.book_block.proofs.put_table.Statement.{statement}
 use Rattle.book_block.proofs.put_table.Tie as tie
 use Rattle.book_block.proofs.put_table.Reads as reads
@@ -24,7 +25,7 @@ abbrev μ-loop : tie.MeasureT-loop
 
 -- src/lib.rt:228:5
 loop-holds : tie.Need-loop-holds Inv-loop μ-loop
-loop-holds c = let g = c .before .good in (search needs, search needs, ?)
+loop-holds c = (search needs, search needs, sym (front-nothing _))
 
 -- src/lib.rt:229:18
 mul-at : tie.Need-mul-at Inv-loop μ-loop
@@ -74,11 +75,12 @@ loop-again : tie.Need-loop-again Inv-loop μ-loop
 loop-again c =
     let turn = c .before .before .before .before .before .before in
     let start = turn .before .before .args in
+    let sizes = symbols-words 16 (start .t2) (turn .before .before .good .1 .0) in
     let i = turn .loop .i in (
       search needs,
       search needs,
       lent-front (10 * i) _ (turn .loop .words) (omega arith) (c .before .before .put-symbol .ensures)
-          ∙ front-more symbolWords 10 (start .t2) (λ x m. ?) i _ (start .words .now) (omega arith) (omega arith) refl (turn .loop .inv .2),
+          ∙ front-more symbolWords 10 (start .t2) sizes i _ (start .words .now) (omega arith) (omega arith) refl (turn .loop .inv .2),
     )
 
 -- src/lib.rt:223:1
