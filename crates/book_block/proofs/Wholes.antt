@@ -41,8 +41,10 @@ module _ (w : List ℕ) where
       → os ≡ take 31 (rest 207) → fs ≡ take 31 (rest 238) → withParts ns ys os fs ≡ bookHeld w
   unfolding bookHeld
   parts-held {ns} {ys} {os} {fs} a b c d =
+      let ns₁ = map nameIn (groups 2 20 (drop 7 w)) in
+      let ys₁ = map symbolIn (groups 10 16 (drop 47 w)) in
       ap₂ (λ n y. withParts n y os fs) (a ∙ ap (λ r. map nameIn (groups 2 20 r)) (lent-rest 7 w)) (b ∙ ap (λ r. map symbolIn (groups 10 16 r)) (lent-rest 47 w))
-      ∙ ap₂ (λ o f. withParts _ _ o f) (c ∙ ap (take 31) (lent-rest 207 w)) (d ∙ ap (take 31) (lent-rest 238 w))
+      ∙ ap₂ (λ o f. withParts ns₁ ys₁ o f) (c ∙ ap (take 31) (lent-rest 207 w)) (d ∙ ap (take 31) (lent-rest 238 w))
 
 -- b behind a, which is put already, in the part that is lent from p to the end
 next-part : (p : ℕ) (a b l : List ℕ) {k m : List ℕ} → length a ≡ p → p + length b ≤ length l → k ≡ front a l → m ≡ front b (midOf p (length k - p) k)
