@@ -15,7 +15,7 @@ use Rattle.table.specs.declared.Name.{Name}
 use Rattle.book.specs.declared.Book.{Book}
 use Rattle.blocks.specs.Groups.{groups}
 use Rattle.blocks.specs.BookBlock.{nameIn, parameterIn, symbolIn, bookHeld, bookIn, nameWords, parameterWords, symbolWords, flag, bookHead, bookWords}
-use Rattle.blocks.proofs.Cuts.{gathered-back, drop-two}
+use Rattle.blocks.proofs.Groups.{gathered-back, drop-two}
 
 -- the arrays of a book, and those of each symbol in it, have their lengths, as in any struct
 pub record Sized (b : Book) : Type 0 where

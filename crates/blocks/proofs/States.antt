@@ -27,7 +27,7 @@ use Rattle.state.specs.declared.State.{State}
 use Rattle.state.specs.States.{stateOf}
 use Rattle.blocks.specs.Groups.{groups}
 use Rattle.blocks.specs.StateBlock.{slotIn, disjunctIn, stateHeld, stateIn, entryWords, groupWords, stateHead, stateWords, stateStored}
-use Rattle.blocks.proofs.Cuts.{groups-gather, gathered-back, groups-take}
+use Rattle.blocks.proofs.Groups.{groups-gather, gathered-back, groups-take}
 
 -- An entry in seven words.
 entry-length : (x : Entry) → length (exclusions x) ≤ 6 → length (entryWords x) ≡ 7

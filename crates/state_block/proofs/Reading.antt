@@ -22,7 +22,7 @@ use Rattle.disjunct.specs.Disjuncts.{disjunctOf}
 use Rattle.state.specs.declared.State.{State}
 use Rattle.blocks.specs.Groups.{groups}
 use Rattle.blocks.specs.StateBlock.{slotIn, disjunctIn, stateHeld, stateIn, unknownState}
-use Rattle.state_block.proofs.Groups.{groups-length, groups-at}
+use Rattle.blocks.proofs.Groups.{groups-length, groups-at}
 
 pub slot-bound : (w : List ℕ) (r : Slot) → getD w 0 0 ≡ 7 → r ≡ slotOf (bound (getD w 1 0)) → r ≡ slotIn w
 unfolding slotIn
