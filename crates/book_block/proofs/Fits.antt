@@ -3,7 +3,7 @@
 use mathlib.Core.Path.{_≡_, refl, sym, ap, ap₂, _∙_}
 use mathlib.Core.Bool.{Bool, true, false, _&&_, and-eq-true-iff}
 use mathlib.Core.List.{List, map}
-use Prim.Native.Nat.{ℕ, _+_, _-_, _≤_, _<_}
+use Prim.Native.Nat.{ℕ, _+_, _-_}
 use native.Mathlib.Omega.{arith}
 use borrow.Author.Tests.{leb-true, lt-ltb, eqb-true, eqb-false}
 use lib.Dec.{eqb}
@@ -16,7 +16,7 @@ use Rattle.laws.proofs.Parts.{pad-take}
 use Rattle.pattern.specs.Regex.{Regex}
 use Rattle.meaning.specs.Book.{soundSymbol}
 use Rattle.form.specs.Text.{Bytes, Declarations, SymbolLine, spans}
-use Rattle.form.specs.Form.{Form, symbolNames, allNames}
+use Rattle.form.specs.Form.{Form, symbolNames}
 use Rattle.form.specs.Lines.{bytesAt}
 use Rattle.parsing.proofs.Accepted as Accepted
 use Rattle.table.specs.Tables.{noName, nameOf}

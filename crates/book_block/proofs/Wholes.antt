@@ -1,6 +1,6 @@
 -- A book of its parts: read from the parts of a block of words (`held`), and put into them one behind the other (`put_book`).
 use mathlib.Core.Path.{_≡_, refl, ap, ap₂, _∙_}
-use mathlib.Core.Bool.{Bool, not}
+use mathlib.Core.Bool.{not}
 use mathlib.Core.List.{List, map, _++_, append-assoc, List·Memᴰ}
 use Prim.Native.Nat.{ℕ, _+_, _-_, _≤_}
 use native.Mathlib.Omega.{arith}

@@ -1,32 +1,24 @@
+-- `book_in` meets its contract: the book that is held, or the empty one where the first word is not the layout's number.
 use borrow.Author.Needs.{needs}
 use borrow.Author.Tests.{eq-eqb, ne-eqb}
 use lib.ListN.{getD}
 use Rattle.blocks.specs.BookBlock.{bookIn}
 use Rattle.book_block.proofs.book_in.Statement.{statement}
 use Rattle.book_block.proofs.book_in.Tie as tie
-use Rattle.book_block.proofs.book_in.Reads as reads
-use Rattle.book_block.proofs.book_in.Lts as lts
-use Rattle.book.proofs.empty_book.Reads as empty-book-reads
-use Rattle.book_block.proofs.held.Reads as held-reads
 
--- src/lib.rt:165:8
 shared-slice-read-if1 : tie.Need-shared-slice-read-if1
 shared-slice-read-if1 c = search needs
 
--- src/lib.rt:166:9
 held-requires : tie.Need-held-requires
 held-requires c κs = search needs
 
--- src/lib.rt:166:9
 returns : tie.Need-returns
 unfolding bookIn
 returns c = let w = c .before .before .before .before .args .words .now in rw (eq-eqb (getD w 0 0) 1001 (c .before .if1 .taken)) (c .held .ensures)
 
--- src/lib.rt:168:5
 empty-book-requires : tie.Need-empty-book-requires
 empty-book-requires c κs = search needs
 
--- src/lib.rt:161:1
 returns-2 : tie.Need-returns-2
 unfolding bookIn
 returns-2 c = let w = c .before .before .before .before .args .words .now in rw (ne-eqb (getD w 0 0) 1001 (c .before .if1 .left)) (c .empty-book .ensures)

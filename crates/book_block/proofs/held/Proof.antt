@@ -1,115 +1,85 @@
+-- `held` meets its contract: each part of the book is read from where it begins.
 use native.Mathlib.Omega.{arith}
 use borrow.Author.Needs.{needs}
 use Rattle.book_block.proofs.Wholes.{parts-held}
 use Rattle.book_block.proofs.held.Statement.{statement}
 use Rattle.book_block.proofs.held.Tie as tie
-use Rattle.book_block.proofs.held.Reads as reads
-use Rattle.book_block.proofs.held.Lts as lts
-use Rattle.book_block.proofs.names_in.Reads as names-in-reads
-use Rattle.book_block.proofs.numbers_in.Reads as numbers-in-reads
-use Rattle.book_block.proofs.table_in.Reads as table-in-reads
 
--- src/lib.rt:142:26
 sub-names-in : tie.Need-sub-names-in
 sub-names-in c = search needs
 
--- src/lib.rt:142:26
 part-names-in-start : tie.Need-part-names-in-start
 part-names-in-start c = search needs
 
--- src/lib.rt:142:26
 part-names-in-end : tie.Need-part-names-in-end
 part-names-in-end c = search needs
 
--- src/lib.rt:142:9
 names-in-requires : tie.Need-names-in-requires
 names-in-requires c κs = search needs
 
--- src/lib.rt:143:26
 sub-table-in : tie.Need-sub-table-in
 sub-table-in c = search needs
 
--- src/lib.rt:143:26
 part-table-in-start : tie.Need-part-table-in-start
 part-table-in-start c = search needs
 
--- src/lib.rt:143:26
 part-table-in-end : tie.Need-part-table-in-end
 part-table-in-end c = search needs
 
--- src/lib.rt:143:9
 table-in-requires : tie.Need-table-in-requires
 table-in-requires c κs = search needs
 
--- src/lib.rt:144:34
 sub-numbers-in : tie.Need-sub-numbers-in
 sub-numbers-in c = search needs
 
--- src/lib.rt:144:34
 part-numbers-in-start : tie.Need-part-numbers-in-start
 part-numbers-in-start c = search needs
 
--- src/lib.rt:144:34
 part-numbers-in-end : tie.Need-part-numbers-in-end
 part-numbers-in-end c = search needs
 
--- src/lib.rt:144:9
 numbers-in-requires : tie.Need-numbers-in-requires
 numbers-in-requires c κs = search needs
 
--- src/lib.rt:145:30
 sub-numbers-in-2 : tie.Need-sub-numbers-in-2
 sub-numbers-in-2 c = search needs
 
--- src/lib.rt:145:30
 part-numbers-in-start-2 : tie.Need-part-numbers-in-start-2
 part-numbers-in-start-2 c = search needs
 
--- src/lib.rt:145:30
 part-numbers-in-end-2 : tie.Need-part-numbers-in-end-2
 part-numbers-in-end-2 c = search needs
 
--- src/lib.rt:145:9
 numbers-in-requires-2 : tie.Need-numbers-in-requires-2
 numbers-in-requires-2 c κs = search needs
 
--- src/lib.rt:147:20
 shared-slice-read-t20 : tie.Need-shared-slice-read-t20
 shared-slice-read-t20 c = search needs
 
--- src/lib.rt:147:20
 cast-t7 : tie.Need-cast-t7
 cast-t7 c = omega (arith, c .shared-slice-known2 .given 1)
 
--- src/lib.rt:148:18
 shared-slice-read-t22 : tie.Need-shared-slice-read-t22
 shared-slice-read-t22 c = search needs
 
--- src/lib.rt:148:18
 cast-t23 : tie.Need-cast-t23
 cast-t23 c = omega (arith, c .shared-slice-known3 .given 2)
 
--- src/lib.rt:151:20
 shared-slice-read-t25 : tie.Need-shared-slice-read-t25
 shared-slice-read-t25 c = search needs
 
--- src/lib.rt:151:20
 cast-t26 : tie.Need-cast-t26
 cast-t26 c = omega (arith, c .shared-slice-known4 .given 3)
 
--- src/lib.rt:153:17
 shared-slice-read-t28 : tie.Need-shared-slice-read-t28
 shared-slice-read-t28 c = search needs
 
--- src/lib.rt:154:15
 shared-slice-read-t30 : tie.Need-shared-slice-read-t30
 shared-slice-read-t30 c = search needs
 
--- src/lib.rt:156:16
 shared-slice-read-t32 : tie.Need-shared-slice-read-t32
 shared-slice-read-t32 c = search needs
 
--- src/lib.rt:138:1
 returns : tie.Need-returns
 returns c =
     let follows = c .before .before .before .before .before .before in

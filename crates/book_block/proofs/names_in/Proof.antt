@@ -1,4 +1,5 @@
-use mathlib.Core.Path.{_≡_, refl}
+-- `names_in` meets its contract: after i turns the first i names are those of the first i groups of words.
+use mathlib.Core.Path.{_≡_}
 use mathlib.Core.List.{map}
 use Prim.Native.Nat.{_-_, _≤_}
 use native.Mathlib.Omega.{arith}
@@ -9,9 +10,6 @@ use Rattle.blocks.specs.BookBlock.{nameIn}
 use Rattle.blocks.proofs.Groups.{groups-more, groups-all}
 use Rattle.book_block.proofs.names_in.Statement.{statement}
 use Rattle.book_block.proofs.names_in.Tie as tie
-use Rattle.book_block.proofs.names_in.Reads as reads
-use Rattle.book_block.proofs.names_in.Lts as lts
-use Rattle.book_block.proofs.name_in.Reads as name-in-reads
 
 abbrev Inv-loop : tie.InvT-loop
 Inv-loop words names₀ i₀ names i = (i ≤ 20) × (length names ≡ 20) × (take i names ≡ map nameIn (take i (groups 2 20 words)))
@@ -19,65 +17,52 @@ Inv-loop words names₀ i₀ names i = (i ≤ 20) × (length names ≡ 20) × (t
 abbrev μ-loop : tie.MeasureT-loop
 μ-loop words names₀ i₀ names i = 20 - i
 
--- src/lib.rt:64:5
 loop-holds : tie.Need-loop-holds Inv-loop μ-loop
 loop-holds c = search needs
 
--- src/lib.rt:65:18
 mul-at : tie.Need-mul-at Inv-loop μ-loop
 mul-at c = search needs
 
--- src/lib.rt:66:19
 add-end : tie.Need-add-end Inv-loop μ-loop
 add-end c = search needs
 
--- src/lib.rt:67:28
 mul-name-in : tie.Need-mul-name-in Inv-loop μ-loop
 mul-name-in c = search needs
 
--- src/lib.rt:67:28
 sub-name-in : tie.Need-sub-name-in Inv-loop μ-loop
 sub-name-in c = search needs
 
--- src/lib.rt:67:28
 part-name-in-start : tie.Need-part-name-in-start Inv-loop μ-loop
 part-name-in-start c = search needs
 
--- src/lib.rt:67:28
 part-name-in-end : tie.Need-part-name-in-end Inv-loop μ-loop
 part-name-in-end c = search needs
 
--- src/lib.rt:67:20
 name-in-requires : tie.Need-name-in-requires Inv-loop μ-loop
 name-in-requires c κs = search needs
 
--- src/lib.rt:67:9
 mul-names : tie.Need-mul-names Inv-loop μ-loop
 mul-names c = search needs
 
--- src/lib.rt:67:9
 array-set-from-names : tie.Need-array-set-from-names Inv-loop μ-loop
 array-set-from-names c = search needs
 
--- src/lib.rt:68:9
 add-i : tie.Need-add-i Inv-loop μ-loop
 add-i c = search needs
 
--- src/lib.rt:64:5
 loop-less : tie.Need-loop-less Inv-loop μ-loop
 loop-less c = search needs
 
--- src/lib.rt:64:5
 loop-again : tie.Need-loop-again Inv-loop μ-loop
 loop-again c =
     let turn = c .before .before .before in
+    let w = turn .before .before .args .words .now in
     let loop = turn .loop in (
       search needs,
       search needs,
-      groups-more nameIn 2 20 (turn .before .before .args .words .now) (loop .i) (loop .names) (omega arith) (loop .inv .1) (loop .inv .2) (c .name-in .ensures),
+      groups-more nameIn 2 20 w (loop .i) (loop .names) (omega arith) (loop .inv .1) (loop .inv .2) (c .name-in .ensures),
     )
 
--- src/lib.rt:57:1
 returns : tie.Need-returns Inv-loop μ-loop
 returns c =
     let loop = c .before .loop in

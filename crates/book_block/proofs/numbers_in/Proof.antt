@@ -1,3 +1,4 @@
+-- `numbers_in` meets its contract: the copied words are all of the array.
 use mathlib.Core.Path.{sym, _∙_}
 use native.Mathlib.Omega.{arith}
 use borrow.Author.Needs.{needs}
@@ -6,23 +7,16 @@ use lib.Seq.{length-take-le}
 use Rattle.laws.proofs.Fronts.{front-whole}
 use Rattle.book_block.proofs.numbers_in.Statement.{statement}
 use Rattle.book_block.proofs.numbers_in.Tie as tie
-use Rattle.book_block.proofs.numbers_in.Reads as reads
-use Rattle.book_block.proofs.numbers_in.Lts as lts
-use Rattle.blocks.proofs.copy.Reads as copy-reads
 
--- src/lib.rt:133:18
 slice-aggregate-copy : tie.Need-slice-aggregate-copy
 slice-aggregate-copy c = sym (length-take-le 31 (c .before .before .args .words .now) (c .before .before .pre))
 
--- src/lib.rt:133:39
 slice-aggregate-copy-2 : tie.Need-slice-aggregate-copy-2
 slice-aggregate-copy-2 c = search needs
 
--- src/lib.rt:133:5
 copy-requires : tie.Need-copy-requires
 copy-requires c κs = omega (arith, length-take 31 (c .before .before .before .args .words .now))
 
--- src/lib.rt:128:1
 returns : tie.Need-returns
 returns c =
     let start = c .before .before .before .before .before in

@@ -1,20 +1,16 @@
+-- `parameter_in` meets its contract: the two words are the parameter's tag and number.
 use mathlib.Core.Path.{refl}
 use borrow.Author.Needs.{needs}
 use Rattle.blocks.specs.BookBlock.{parameterIn}
 use Rattle.book_block.proofs.parameter_in.Statement.{statement}
 use Rattle.book_block.proofs.parameter_in.Tie as tie
-use Rattle.book_block.proofs.parameter_in.Reads as reads
-use Rattle.book_block.proofs.parameter_in.Lts as lts
 
--- src/lib.rt:78:14
 shared-slice-read-t3 : tie.Need-shared-slice-read-t3
 shared-slice-read-t3 c = search needs
 
--- src/lib.rt:79:17
 shared-slice-read-t5 : tie.Need-shared-slice-read-t5
 shared-slice-read-t5 c = search needs
 
--- src/lib.rt:73:1
 returns : tie.Need-returns
 unfolding parameterIn
 returns c = refl

@@ -1,3 +1,4 @@
+-- `put_book` meets its contract: each part right behind the others, until all words of the block are the book's.
 use mathlib.Core.Path.{_≡_, refl}
 use native.Mathlib.Omega.{arith}
 use borrow.Author.Needs.{needs}
@@ -8,105 +9,82 @@ use Rattle.book_block.proofs.Sizes.{table-words}
 use Rattle.book_block.proofs.Wholes.{parts-put}
 use Rattle.book_block.proofs.put_book.Statement.{statement}
 use Rattle.book_block.proofs.put_book.Tie as tie
-use Rattle.book_block.proofs.put_book.Reads as reads
-use Rattle.book_block.proofs.put_book.Lts as lts
-use Rattle.blocks.proofs.copy.Reads as copy-reads
-use Rattle.book_block.proofs.put_head.Reads as put-head-reads
-use Rattle.book_block.proofs.put_names.Reads as put-names-reads
-use Rattle.book_block.proofs.put_table.Reads as put-table-reads
 
 -- the arrays of the book have their lengths
 lengths : (c : tie.Start) → let b = c .args .b in
     (length (b .names) ≡ 20) × (length (b .table) ≡ 16) × (length (b .occurrences) ≡ 31) × (length (b .follows) ≡ 31)
 lengths c = (search (needs, map-length), search (needs, map-length), search (needs, map-length), search (needs, map-length))
 
--- src/lib.rt:259:5
 put-head-requires : tie.Need-put-head-requires
 put-head-requires c κs = search needs
 
--- src/lib.rt:260:15
 sub-put-names : tie.Need-sub-put-names
 sub-put-names c = search needs
 
--- src/lib.rt:260:15
 part-put-names-start : tie.Need-part-put-names-start
 part-put-names-start c = search needs
 
--- src/lib.rt:260:15
 part-put-names-end : tie.Need-part-put-names-end
 part-put-names-end c = search needs
 
--- src/lib.rt:260:5
 put-names-requires : tie.Need-put-names-requires
-put-names-requires c κs = let start = c .before .before .before .before .before .before .before .before .before .before in (search needs, book-numbers (start .args .b) (start .pre .1) .names)
+put-names-requires c κs =
+    let start = c .before .before .before .before .before .before .before .before .before .before in
+    (search needs, book-numbers (start .args .b) (start .pre .1) .names)
 
--- src/lib.rt:261:15
 sub-put-table : tie.Need-sub-put-table
 sub-put-table c = search needs
 
--- src/lib.rt:261:15
 part-put-table-start : tie.Need-part-put-table-start
 part-put-table-start c = search needs
 
--- src/lib.rt:261:15
 part-put-table-end : tie.Need-part-put-table-end
 part-put-table-end c = search needs
 
--- src/lib.rt:261:5
 put-table-requires : tie.Need-put-table-requires
 put-table-requires c κs =
     let start = c .before .before .before .before .before .before .before .before .before .before .before .before .before .before in
     (search needs, book-numbers (start .args .b) (start .pre .1) .table)
 
--- src/lib.rt:262:18
 slice-aggregate-copy : tie.Need-slice-aggregate-copy
 slice-aggregate-copy c = search needs
 
--- src/lib.rt:262:32
 sub-copy : tie.Need-sub-copy
 sub-copy c = search needs
 
--- src/lib.rt:262:32
 part-copy-start : tie.Need-part-copy-start
 part-copy-start c = search needs
 
--- src/lib.rt:262:32
 part-copy-end : tie.Need-part-copy-end
 part-copy-end c = search needs
 
--- src/lib.rt:262:5
 copy-requires : tie.Need-copy-requires
 copy-requires c κs =
-    let start = c .before .before .before .before .before .before .before .before .before .before .before .before .before .before .before .before .before .before .before in
+    let names = c .before .before .before .before .before .before .before .before in
+    let start = names .before .before .before .before .before .before .before .before .before .before .before in
     omega (arith, lengths start .2)
 
--- src/lib.rt:263:18
 slice-aggregate-copy-2 : tie.Need-slice-aggregate-copy-2
 slice-aggregate-copy-2 c = search needs
 
--- src/lib.rt:263:28
 sub-copy-2 : tie.Need-sub-copy-2
 sub-copy-2 c = search needs
 
--- src/lib.rt:263:28
 part-copy-start-2 : tie.Need-part-copy-start-2
 part-copy-start-2 c = search needs
 
--- src/lib.rt:263:28
 part-copy-end-2 : tie.Need-part-copy-end-2
 part-copy-end-2 c = search needs
 
--- src/lib.rt:263:5
 copy-requires-2 : tie.Need-copy-requires-2
 copy-requires-2 c κs =
-    let start = c .before .before .before .before .before .before .before .before .before .before .before .before .before .before .before .before .before .before .before .before .before .before .before .before in
+    let table = c .before .before .before .before .before .before .before .before .before in
+    let start = table .before .before .before .before .before .before .before .before .before .before .before .before .before .before .before in
     omega (arith, lengths start .3)
 
--- src/lib.rt:251:1
 same-length : tie.Need-same-length
 same-length c = search needs
 
--- src/lib.rt:251:1
 returns : tie.Need-returns
 returns c =
     let follows = c .before .before in
@@ -116,8 +94,9 @@ returns c =
     let head = names .before .before .before .before in
     let start = head .before .before .before .before .before .before .before in
     let (few, many, o, f) = lengths start in
-    parts-put (start .args .b) few many (table-words (start .args .b) (start .good .1 .0)) o f (start .args .words .now) (start .pre .0) (head .put-head .ensures)
-    (names .put-names .ensures) refl (table .put-table .ensures) refl (occurrences .copy .ensures) refl (follows .copy2 .ensures) refl
+    parts-put (start .args .b) few many (table-words (start .args .b) (start .good .1 .0)) o f
+    (start .args .words .now) (start .pre .0) (head .put-head .ensures) (names .put-names .ensures) refl
+    (table .put-table .ensures) refl (occurrences .copy .ensures) refl (follows .copy2 .ensures) refl
 
 pub put-book-spec : {M : Type 1} → statement M
 put-book-spec =

@@ -1,3 +1,4 @@
+-- `put_head` meets its contract: seven words written one after the other are a front; the flag is 1 or 0.
 use mathlib.Core.Path.{_≡_, sym, ap, _∙_}
 use mathlib.Core.List.{List, [], _∷_}
 use mathlib.Core.Logic.{⊎-elim}
@@ -11,54 +12,40 @@ use Rattle.blocks.specs.BookBlock.{flag}
 use Rattle.book_block.proofs.Splits.{book-numbers}
 use Rattle.book_block.proofs.put_head.Statement.{statement}
 use Rattle.book_block.proofs.put_head.Tie as tie
-use Rattle.book_block.proofs.put_head.Reads as reads
-use Rattle.book_block.proofs.put_head.Lts as lts
 
--- src/lib.rt:241:5
 slice-write-words : tie.Need-slice-write-words
 slice-write-words c = search needs
 
--- src/lib.rt:242:16
 cast-words : tie.Need-cast-words
 cast-words c = omega (arith, book-numbers (c .args .b) (c .pre .1))
 
--- src/lib.rt:242:5
 slice-write-words-2 : tie.Need-slice-write-words-2
 slice-write-words-2 c = search needs
 
--- src/lib.rt:243:16
 cast-words-2 : tie.Need-cast-words-2
 cast-words-2 c = omega (arith, book-numbers (c .args .b) (c .pre .1))
 
--- src/lib.rt:243:5
 slice-write-words-3 : tie.Need-slice-write-words-3
 slice-write-words-3 c = search needs
 
--- src/lib.rt:244:16
 cast-words-3 : tie.Need-cast-words-3
 cast-words-3 c = omega (arith, book-numbers (c .args .b) (c .pre .1))
 
--- src/lib.rt:244:5
 slice-write-words-4 : tie.Need-slice-write-words-4
 slice-write-words-4 c = search needs
 
--- src/lib.rt:245:5
 slice-write-words-5 : tie.Need-slice-write-words-5
 slice-write-words-5 c = simp length-set (omega arith)
 
--- src/lib.rt:246:5
 slice-write-words-6 : tie.Need-slice-write-words-6
 slice-write-words-6 c = simp length-set (omega arith)
 
--- src/lib.rt:247:5
 slice-write-words-7 : tie.Need-slice-write-words-7
 slice-write-words-7 c = simp length-set (omega arith)
 
--- src/lib.rt:237:1
 same-length : tie.Need-same-length
 same-length c = search needs
 
--- src/lib.rt:237:1
 returns : tie.Need-returns
 unfolding front
 returns c =

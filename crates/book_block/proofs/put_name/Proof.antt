@@ -1,3 +1,4 @@
+-- `put_name` meets its contract: two words written one after the other are a front.
 use native.Mathlib.Omega.{arith}
 use borrow.Author.Needs.{needs}
 use lib.Seq.{sets-eq}
@@ -6,30 +7,22 @@ use Rattle.blocks.specs.BookBlock.{nameWords}
 use Rattle.book_block.proofs.Splits.{name-numbers}
 use Rattle.book_block.proofs.put_name.Statement.{statement}
 use Rattle.book_block.proofs.put_name.Tie as tie
-use Rattle.book_block.proofs.put_name.Reads as reads
-use Rattle.book_block.proofs.put_name.Lts as lts
 
--- src/lib.rt:175:16
 cast-words : tie.Need-cast-words
 cast-words c = omega (arith, name-numbers (c .before .args .x) (c .before .pre .1))
 
--- src/lib.rt:175:5
 slice-write-words : tie.Need-slice-write-words
 slice-write-words c = search needs
 
--- src/lib.rt:176:16
 cast-words-2 : tie.Need-cast-words-2
 cast-words-2 c = omega (arith, name-numbers (c .before .before .args .x) (c .before .before .pre .1))
 
--- src/lib.rt:176:5
 slice-write-words-2 : tie.Need-slice-write-words-2
 slice-write-words-2 c = search needs
 
--- src/lib.rt:171:1
 same-length : tie.Need-same-length
 same-length c = search needs
 
--- src/lib.rt:171:1
 returns : tie.Need-returns
 unfolding front
 returns c = let start = c .before .before in sets-eq (nameWords (start .args .x)) (start .args .words .now) 0 (start .pre .0)

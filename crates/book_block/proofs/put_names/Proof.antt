@@ -1,3 +1,4 @@
+-- `put_names` meets its contract: after i turns the words of the first i names stand over the front of what was lent.
 use mathlib.Core.Path.{_≡_, refl, sym, ap, _∙_}
 use Prim.Native.Nat.{_*_, _-_, _≤_}
 use native.Mathlib.Omega.{arith}
@@ -12,9 +13,6 @@ use Rattle.blocks.specs.BookBlock.{nameWords}
 use Rattle.book_block.specs.Fits.{nameFits}
 use Rattle.book_block.proofs.put_names.Statement.{statement}
 use Rattle.book_block.proofs.put_names.Tie as tie
-use Rattle.book_block.proofs.put_names.Reads as reads
-use Rattle.book_block.proofs.put_names.Lts as lts
-use Rattle.book_block.proofs.put_name.Reads as put-name-reads
 
 abbrev Inv-loop : tie.InvT-loop
 Inv-loop words₀ names i₀ words i = (i ≤ 20) × (length words ≡ length words₀) × (words ≡ front (gather nameWords (take i names)) words₀)
@@ -22,54 +20,42 @@ Inv-loop words₀ names i₀ words i = (i ≤ 20) × (length words ≡ length wo
 abbrev μ-loop : tie.MeasureT-loop
 μ-loop words₀ names i₀ words i = 20 - i
 
--- src/lib.rt:184:5
 loop-holds : tie.Need-loop-holds Inv-loop μ-loop
 loop-holds c = (search needs, search needs, sym (front-nothing _))
 
--- src/lib.rt:185:18
 mul-at : tie.Need-mul-at Inv-loop μ-loop
 mul-at c = search needs
 
--- src/lib.rt:186:17
 mul-x : tie.Need-mul-x Inv-loop μ-loop
 mul-x c = search needs
 
--- src/lib.rt:186:17
 array-copy-out-x : tie.Need-array-copy-out-x Inv-loop μ-loop
 array-copy-out-x c = search needs
 
--- src/lib.rt:187:18
 mul-put-name : tie.Need-mul-put-name Inv-loop μ-loop
 mul-put-name c = search needs
 
--- src/lib.rt:187:18
 sub-put-name : tie.Need-sub-put-name Inv-loop μ-loop
 sub-put-name c = search needs
 
--- src/lib.rt:187:18
 part-put-name-start : tie.Need-part-put-name-start Inv-loop μ-loop
 part-put-name-start c = search needs
 
--- src/lib.rt:187:18
 part-put-name-end : tie.Need-part-put-name-end Inv-loop μ-loop
 part-put-name-end c = search needs
 
--- src/lib.rt:187:9
 put-name-requires : tie.Need-put-name-requires Inv-loop μ-loop
 put-name-requires c κs =
     let turn = c .before .before .before in
     let start = turn .before .before in
     (search needs, all-at nameFits (start .pre .1) (mem-getD (start .args .t2) (turn .loop .i) _ (omega arith)))
 
--- src/lib.rt:188:9
 add-i : tie.Need-add-i Inv-loop μ-loop
 add-i c = search needs
 
--- src/lib.rt:184:5
 loop-less : tie.Need-loop-less Inv-loop μ-loop
 loop-less c = search needs
 
--- src/lib.rt:184:5
 loop-again : tie.Need-loop-again Inv-loop μ-loop
 loop-again c =
     let turn = c .before .before .before .before .before .before in
@@ -81,11 +67,9 @@ loop-again c =
           ∙ front-more nameWords 2 (start .t2) (λ x m. refl) i _ (start .words .now) (omega arith) (omega arith) refl (turn .loop .inv .2),
     )
 
--- src/lib.rt:179:1
 same-length : tie.Need-same-length Inv-loop μ-loop
 same-length c = search needs
 
--- src/lib.rt:179:1
 returns : tie.Need-returns Inv-loop μ-loop
 returns c =
     let start = c .before .before .before .args in

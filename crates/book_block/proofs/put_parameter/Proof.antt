@@ -1,25 +1,20 @@
+-- `put_parameter` meets its contract: two words written one after the other are a front.
 use borrow.Author.Needs.{needs}
 use lib.Seq.{sets-eq}
 use Rattle.laws.specs.Parts.{front}
 use Rattle.blocks.specs.BookBlock.{parameterWords}
 use Rattle.book_block.proofs.put_parameter.Statement.{statement}
 use Rattle.book_block.proofs.put_parameter.Tie as tie
-use Rattle.book_block.proofs.put_parameter.Reads as reads
-use Rattle.book_block.proofs.put_parameter.Lts as lts
 
--- src/lib.rt:196:5
 slice-write-words : tie.Need-slice-write-words
 slice-write-words c = search needs
 
--- src/lib.rt:197:5
 slice-write-words-2 : tie.Need-slice-write-words-2
 slice-write-words-2 c = search needs
 
--- src/lib.rt:192:1
 same-length : tie.Need-same-length
 same-length c = search needs
 
--- src/lib.rt:192:1
 returns : tie.Need-returns
 unfolding front
 returns c = sets-eq (parameterWords (c .args .p)) (c .args .words .now) 0 (c .pre)

@@ -1,3 +1,4 @@
+-- `put_parameters` meets its contract: after i turns the words of the first i parameters stand over the front of what was lent.
 use mathlib.Core.Path.{_≡_, refl, sym, ap, _∙_}
 use Prim.Native.Nat.{_*_, _-_, _≤_}
 use native.Mathlib.Omega.{arith}
@@ -10,9 +11,6 @@ use Rattle.laws.proofs.Fronts.{front-nothing, lent-front, front-more}
 use Rattle.blocks.specs.BookBlock.{parameterWords}
 use Rattle.book_block.proofs.put_parameters.Statement.{statement}
 use Rattle.book_block.proofs.put_parameters.Tie as tie
-use Rattle.book_block.proofs.put_parameters.Reads as reads
-use Rattle.book_block.proofs.put_parameters.Lts as lts
-use Rattle.book_block.proofs.put_parameter.Reads as put-parameter-reads
 
 abbrev Inv-loop : tie.InvT-loop
 Inv-loop words₀ parameters i₀ words i = (i ≤ 4) × (length words ≡ length words₀) × (words ≡ front (gather parameterWords (take i parameters)) words₀)
@@ -20,51 +18,39 @@ Inv-loop words₀ parameters i₀ words i = (i ≤ 4) × (length words ≡ lengt
 abbrev μ-loop : tie.MeasureT-loop
 μ-loop words₀ parameters i₀ words i = 4 - i
 
--- src/lib.rt:205:5
 loop-holds : tie.Need-loop-holds Inv-loop μ-loop
 loop-holds c = (search needs, search needs, sym (front-nothing _))
 
--- src/lib.rt:206:18
 mul-at : tie.Need-mul-at Inv-loop μ-loop
 mul-at c = search needs
 
--- src/lib.rt:207:17
 mul-p : tie.Need-mul-p Inv-loop μ-loop
 mul-p c = search needs
 
--- src/lib.rt:207:17
 array-copy-out-p : tie.Need-array-copy-out-p Inv-loop μ-loop
 array-copy-out-p c = search needs
 
--- src/lib.rt:208:23
 mul-put-parameter : tie.Need-mul-put-parameter Inv-loop μ-loop
 mul-put-parameter c = search needs
 
--- src/lib.rt:208:23
 sub-put-parameter : tie.Need-sub-put-parameter Inv-loop μ-loop
 sub-put-parameter c = search needs
 
--- src/lib.rt:208:23
 part-put-parameter-start : tie.Need-part-put-parameter-start Inv-loop μ-loop
 part-put-parameter-start c = search needs
 
--- src/lib.rt:208:23
 part-put-parameter-end : tie.Need-part-put-parameter-end Inv-loop μ-loop
 part-put-parameter-end c = search needs
 
--- src/lib.rt:208:9
 put-parameter-requires : tie.Need-put-parameter-requires Inv-loop μ-loop
 put-parameter-requires c κs = search needs
 
--- src/lib.rt:209:9
 add-i : tie.Need-add-i Inv-loop μ-loop
 add-i c = search needs
 
--- src/lib.rt:205:5
 loop-less : tie.Need-loop-less Inv-loop μ-loop
 loop-less c = search needs
 
--- src/lib.rt:205:5
 loop-again : tie.Need-loop-again Inv-loop μ-loop
 loop-again c =
     let turn = c .before .before .before .before .before .before in
@@ -76,11 +62,9 @@ loop-again c =
           ∙ front-more parameterWords 2 (start .t2) (λ x m. refl) i _ (start .words .now) (omega arith) (omega arith) refl (turn .loop .inv .2),
     )
 
--- src/lib.rt:200:1
 same-length : tie.Need-same-length Inv-loop μ-loop
 same-length c = search needs
 
--- src/lib.rt:200:1
 returns : tie.Need-returns Inv-loop μ-loop
 returns c =
     let start = c .before .before .before .args in

@@ -1,3 +1,4 @@
+-- `put_symbol` meets its contract: kind and count over the first two words, the parameters right behind them.
 use mathlib.Core.Path.{_≡_, refl, ap, _∙_}
 use mathlib.Core.List.{[], _∷_}
 use Prim.Native.Nat.{_*_}
@@ -13,39 +14,28 @@ use Rattle.blocks.specs.BookBlock.{parameterWords}
 use Rattle.book_block.proofs.Splits.{symbol-number}
 use Rattle.book_block.proofs.put_symbol.Statement.{statement}
 use Rattle.book_block.proofs.put_symbol.Tie as tie
-use Rattle.book_block.proofs.put_symbol.Reads as reads
-use Rattle.book_block.proofs.put_symbol.Lts as lts
-use Rattle.book_block.proofs.put_parameters.Reads as put-parameters-reads
 
--- src/lib.rt:218:5
 slice-write-words : tie.Need-slice-write-words
 slice-write-words c = search needs
 
--- src/lib.rt:219:16
 cast-words : tie.Need-cast-words
 cast-words c = omega (arith, symbol-number (c .before .before .before .args .y) (c .before .before .before .pre .1))
 
--- src/lib.rt:219:5
 slice-write-words-2 : tie.Need-slice-write-words-2
 slice-write-words-2 c = simp length-set (omega arith)
 
--- src/lib.rt:220:20
 sub-put-parameters : tie.Need-sub-put-parameters
 sub-put-parameters c = simp length-set (omega arith)
 
--- src/lib.rt:220:20
 part-put-parameters-start : tie.Need-part-put-parameters-start
 part-put-parameters-start c = simp length-set (omega arith)
 
--- src/lib.rt:220:20
 part-put-parameters-end : tie.Need-part-put-parameters-end
 part-put-parameters-end c = search needs
 
--- src/lib.rt:220:5
 put-parameters-requires : tie.Need-put-parameters-requires
 put-parameters-requires c κs = simp (length-take, length-drop, length-set) (omega arith)
 
--- src/lib.rt:213:1
 same-length : tie.Need-same-length
 same-length c =
     let start = c .before .before .before .before .before .before .before in
@@ -54,7 +44,6 @@ same-length c =
     let e : length (set (set l 0 (y .kind)) 1 (y .count)) ≡ length l = simp length-set in
     omega arith
 
--- src/lib.rt:213:1
 returns : tie.Need-returns
 unfolding front
 returns c =

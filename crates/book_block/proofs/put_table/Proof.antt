@@ -1,3 +1,4 @@
+-- `put_table` meets its contract: after i turns the words of the first i symbols stand over the front of what was lent.
 use mathlib.Core.Path.{_≡_, refl, sym, ap, _∙_}
 use Prim.Native.Nat.{_*_, _-_, _≤_}
 use native.Mathlib.Omega.{arith}
@@ -13,9 +14,6 @@ use Rattle.book_block.specs.Fits.{symbolFits}
 use Rattle.book_block.proofs.Sizes.{symbols-words}
 use Rattle.book_block.proofs.put_table.Statement.{statement}
 use Rattle.book_block.proofs.put_table.Tie as tie
-use Rattle.book_block.proofs.put_table.Reads as reads
-use Rattle.book_block.proofs.put_table.Lts as lts
-use Rattle.book_block.proofs.put_symbol.Reads as put-symbol-reads
 
 abbrev Inv-loop : tie.InvT-loop
 Inv-loop words₀ symbols i₀ words i = (i ≤ 16) × (length words ≡ length words₀) × (words ≡ front (gather symbolWords (take i symbols)) words₀)
@@ -23,54 +21,42 @@ Inv-loop words₀ symbols i₀ words i = (i ≤ 16) × (length words ≡ length 
 abbrev μ-loop : tie.MeasureT-loop
 μ-loop words₀ symbols i₀ words i = 16 - i
 
--- src/lib.rt:228:5
 loop-holds : tie.Need-loop-holds Inv-loop μ-loop
 loop-holds c = (search needs, search needs, sym (front-nothing _))
 
--- src/lib.rt:229:18
 mul-at : tie.Need-mul-at Inv-loop μ-loop
 mul-at c = search needs
 
--- src/lib.rt:230:17
 mul-y : tie.Need-mul-y Inv-loop μ-loop
 mul-y c = search needs
 
--- src/lib.rt:230:17
 array-copy-out-y : tie.Need-array-copy-out-y Inv-loop μ-loop
 array-copy-out-y c = search needs
 
--- src/lib.rt:231:20
 mul-put-symbol : tie.Need-mul-put-symbol Inv-loop μ-loop
 mul-put-symbol c = search needs
 
--- src/lib.rt:231:20
 sub-put-symbol : tie.Need-sub-put-symbol Inv-loop μ-loop
 sub-put-symbol c = search needs
 
--- src/lib.rt:231:20
 part-put-symbol-start : tie.Need-part-put-symbol-start Inv-loop μ-loop
 part-put-symbol-start c = search needs
 
--- src/lib.rt:231:20
 part-put-symbol-end : tie.Need-part-put-symbol-end Inv-loop μ-loop
 part-put-symbol-end c = search needs
 
--- src/lib.rt:231:9
 put-symbol-requires : tie.Need-put-symbol-requires Inv-loop μ-loop
 put-symbol-requires c κs =
     let turn = c .before .before .before in
     let start = turn .before .before in
     (search needs, all-at symbolFits (start .pre .1) (mem-getD (start .args .t2) (turn .loop .i) _ (omega arith)))
 
--- src/lib.rt:232:9
 add-i : tie.Need-add-i Inv-loop μ-loop
 add-i c = search needs
 
--- src/lib.rt:228:5
 loop-less : tie.Need-loop-less Inv-loop μ-loop
 loop-less c = search needs
 
--- src/lib.rt:228:5
 loop-again : tie.Need-loop-again Inv-loop μ-loop
 loop-again c =
     let turn = c .before .before .before .before .before .before in
@@ -83,11 +69,9 @@ loop-again c =
           ∙ front-more symbolWords 10 (start .t2) sizes i _ (start .words .now) (omega arith) (omega arith) refl (turn .loop .inv .2),
     )
 
--- src/lib.rt:223:1
 same-length : tie.Need-same-length Inv-loop μ-loop
 same-length c = search needs
 
--- src/lib.rt:223:1
 returns : tie.Need-returns Inv-loop μ-loop
 returns c =
     let start = c .before .before .before .args in

@@ -1,3 +1,4 @@
+-- `symbol_in` meets its contract: the parameters are read from the part behind the first two words.
 use mathlib.Core.Path.{ap, _∙_}
 use mathlib.Core.List.{map}
 use native.Mathlib.Omega.{arith}
@@ -8,39 +9,28 @@ use Rattle.blocks.specs.BookBlock.{parameterIn, symbolIn}
 use Rattle.blocks.proofs.Groups.{lent-rest}
 use Rattle.book_block.proofs.symbol_in.Statement.{statement}
 use Rattle.book_block.proofs.symbol_in.Tie as tie
-use Rattle.book_block.proofs.symbol_in.Reads as reads
-use Rattle.book_block.proofs.symbol_in.Lts as lts
-use Rattle.book_block.proofs.parameters_in.Reads as parameters-in-reads
 
--- src/lib.rt:103:36
 sub-parameters-in : tie.Need-sub-parameters-in
 sub-parameters-in c = search needs
 
--- src/lib.rt:103:36
 part-parameters-in-start : tie.Need-part-parameters-in-start
 part-parameters-in-start c = search needs
 
--- src/lib.rt:103:36
 part-parameters-in-end : tie.Need-part-parameters-in-end
 part-parameters-in-end c = search needs
 
--- src/lib.rt:103:9
 parameters-in-requires : tie.Need-parameters-in-requires
 parameters-in-requires c κs = search needs
 
--- src/lib.rt:105:15
 shared-slice-read-t8 : tie.Need-shared-slice-read-t8
 shared-slice-read-t8 c = search needs
 
--- src/lib.rt:106:16
 shared-slice-read-t10 : tie.Need-shared-slice-read-t10
 shared-slice-read-t10 c = search needs
 
--- src/lib.rt:106:16
 cast-t4 : tie.Need-cast-t4
 cast-t4 c = omega (arith, c .shared-slice-known3 .given 1)
 
--- src/lib.rt:99:1
 returns : tie.Need-returns
 unfolding symbolIn
 returns c =
