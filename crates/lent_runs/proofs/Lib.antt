@@ -5,3 +5,4 @@ pub mod Reading
 pub mod Seen
 pub mod Demands
 pub mod Checks
+pub mod Damage
