@@ -133,7 +133,7 @@ module _ {A : Type 0} where
   unfolding front
   front-first b x y h = ap (λ r. b ++ r) (drop-append-le (length b) x y h) ∙ sym (append-assoc b (drop (length b) x) y)
 
-  front-length : (b l : List A) → length b ≤ length l → length (front b l) ≡ length l
+  pub front-length : (b l : List A) → length b ≤ length l → length (front b l) ≡ length l
   unfolding front
   front-length b l h = omega (arith, length-append b (drop (length b) l), length-drop (length b) l)
 
@@ -159,13 +159,13 @@ module _ (w : List ℕ) (long : length w ≡ 3715) (head first second : List ℕ
 
 -- How long a state's arrays, its groups and its words are.
 module _ (s : State) (c : Canonical s) where
-  pool-long : length (s .pool) ≡ 128
+  pub pool-long : length (s .pool) ≡ 128
   pool-long = ap length (c .pool-padded) ∙ pad-length 128 (disjunctOf []) (c .pool) (omega (arith, c .pool-held, c .few))
 
   pub each-place : (d : Disjunct) → List·Memᴰ d (s .pool) → Grouped d
   each-place d m = mem-pad Grouped 128 (disjunctOf []) (c .pool) (c .each) free-grouped d (subst (List·Memᴰ d) (c .pool-padded) m)
 
-  positions-long : length (s .positions) ≡ 128
+  pub positions-long : length (s .positions) ≡ 128
   positions-long = ap length (c .positions-padded) ∙ pad-length 128 0 (c .positions) (omega (arith, c .positions-held, c .few))
 
   groups-long : length (gather groupWords (s .pool)) ≡ 3584
@@ -186,7 +186,7 @@ module _ (w : List ℕ) (long : length w ≡ 3715) (s : State) (c : Canonical s)
   abbrev G : List ℕ
   G = gather groupWords (take m (s .pool))
 
-  stored-parts : stateStored w s ≡ stateHead s ++ (front P (take 128 (drop 3 w)) ++ front G (drop 131 w))
+  pub stored-parts : stateStored w s ≡ stateHead s ++ (front P (take 128 (drop 3 w)) ++ front G (drop 131 w))
   unfolding stateStored
   stored-parts = parts-written w long (stateHead s) P G refl (omega (arith, length-take m (s .positions), positions-long s c))
 

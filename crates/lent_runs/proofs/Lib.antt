@@ -6,3 +6,4 @@ pub mod Seen
 pub mod Demands
 pub mod Checks
 pub mod Damage
+pub mod Words
