@@ -1,13 +1,13 @@
 -- After an accepted event, for any book and state: what is held is what a state's words can tell, and both counts are within the limit. For the lent
 -- call, which stores it.
-use mathlib.Core.Path.{_≡_, refl, sym, ap, subst, _∙_}
-use mathlib.Core.Bool.{Bool, true, false, _&&_}
+use mathlib.Core.Path.{_≡_, refl, sym, subst}
+use mathlib.Core.Bool.{Bool, true, false}
 use mathlib.Core.List.{List, List·Memᴰ}
 use mathlib.Core.Logic.{⊎-elim}
 use Prim.Native.Nat.{ℕ, suc, _≤_, _<_}
 use native.Mathlib.Nat.{eq-or-lt-of-le}
 use native.Mathlib.Omega.{arith}
-use borrow.Author.Tests.{leb-true, le-leb}
+use borrow.Author.Tests.{leb-true}
 use lib.Dec.{leb}
 use lib.ListN.{length}
 use Rattle.laws.specs.Lists.{all}
@@ -25,12 +25,12 @@ use Rattle.record.proofs.Records.{record-event}
 use Rattle.book.specs.declared.Book.{Book}
 use Rattle.book.specs.Books.{viewBook}
 use Rattle.state.specs.declared.State.{State as Struct}
-use Rattle.state.specs.States.{stateOf, heldFirst, viewState}
+use Rattle.state.specs.States.{heldFirst, viewState}
 use Rattle.sound.specs.Soundness.{bookCounts, bookSound, stateCounts, stateSound}
 use Rattle.sound.proofs.Soundness.{book-counts}
 use Rattle.tally.specs.declared.Tally.{Tally}
 use Rattle.calls.specs.Answers.{numberOf}
-use Rattle.calls.specs.Calls.{stateBy, taken}
+use Rattle.calls.specs.Calls.{taken}
 use Rattle.calls.specs.Checks.{unsoundBook, unsoundState}
 use Rattle.demands.proofs.Checks.{first-failing, accepted-leaves}
 use Rattle.demands.proofs.States.{number-within, few-held, piece}

@@ -1,25 +1,19 @@
 -- Words out of range, wherever they stand among those that count: a count of disjuncts over 128, a variable's code above 7 and a parameter's tag above 2 are
 -- answer 9, whatever else the blocks hold. For the buyer who lends memory that anything may have been written to.
 use mathlib.Core.Path.{_≡_, refl, sym, ap, _∙_}
-use mathlib.Core.Bool.{Bool, true, false, _&&_, and-eq-true-iff, false≢true}
+use mathlib.Core.Bool.{Bool, true, false, and-eq-true-iff, false≢true}
 use mathlib.Core.List.{List, [], map}
 use Prim.Native.Nat.{ℕ, _+_, _*_, _≤_, _<_}
 use native.Mathlib.Omega.{arith}
 use borrow.Author.Tests.{leb-true, ne-eqb, lt-leb, eqb-true, eqb-false}
 use lib.Dec.{eqb, leb}
-use lib.ListN.{length, getD, take, drop, length-map, length-take, List·getD-map}
-use lib.Seq.{getD-take, getD-drop, length-take-le}
+use lib.ListN.{length, getD, take, drop, length-take}
+use lib.Seq.{getD-take, getD-drop}
 use Rattle.laws.specs.Lists.{all}
-use Rattle.laws.specs.Parts.{pad}
 use Rattle.laws.proofs.Lists.{and-true-split, all-taken}
 use Rattle.laws.proofs.Parts.{pad-length, pad-at}
 use Rattle.form.specs.Text.{Bytes}
-use Rattle.table.specs.declared.Symbol.{Symbol}
-use Rattle.slot.specs.declared.Slot.{Slot}
-use Rattle.disjunct.specs.declared.Disjunct.{Disjunct}
 use Rattle.disjunct.specs.Disjuncts.{disjunctOf}
-use Rattle.book.specs.declared.Book.{Book}
-use Rattle.state.specs.declared.State.{State}
 use Rattle.sound.specs.Soundness.{symbolCounts, bookCounts, bookSound, slotCounts, stateCounts, stateSound}
 use Rattle.sound.proofs.Soundness.{book-counts}
 use Rattle.calls.specs.Checks.{unsoundBook, unsoundState}
@@ -27,15 +21,8 @@ use Rattle.blocks.specs.Groups.{groups}
 use Rattle.blocks.specs.BookBlock.{parameterIn, symbolIn, bookHeld, bookIn}
 use Rattle.blocks.specs.StateBlock.{slotIn, disjunctIn, stateHeld, stateIn}
 use Rattle.blocks.specs.Lent.{eventLeft}
-use Rattle.blocks.proofs.Groups.{groups-length, groups-at}
+use Rattle.blocks.proofs.Groups.{made-length, made-at}
 use Rattle.lent_runs.proofs.Checks.{lent-first-failing, other-book, other-state}
-
--- what is made of group i
-made-at : {A : Type 0} (f : List ℕ → A) (k n : ℕ) (w : List ℕ) (i : ℕ) → i < n → getD (map f (groups k n w)) i (f []) ≡ f (take k (drop (k * i) w))
-made-at f k n w i h = List·getD-map f (groups k n w) i [] ∙ ap f (groups-at k n w i h)
-
-made-length : {A : Type 0} (f : List ℕ → A) (k n : ℕ) (w : List ℕ) → length (map f (groups k n w)) ≡ n
-made-length f k n w = length-map (groups k n w) f ∙ groups-length k n w
 
 -- a test that cannot pass fails
 fails : (z : Bool) → (z ≡ true → ⊥) → z ≡ false

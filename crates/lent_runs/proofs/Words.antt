@@ -7,13 +7,13 @@ use native.Mathlib.Nat.{mul-comm, mul-add}
 use native.Mathlib.Omega.{arith}
 use borrow.Author.Tests.{eqb-true, eqb-false, eq-eqb}
 use lib.Dec.{eqb}
-use lib.ListN.{length, getD, take, drop, replicate, length-map, length-append, length-take, length-drop, List·getD-map, List·getD-append}
-use lib.Seq.{take-at, drop-at, length-take-le, getD-take, getD-drop, getD-append-add, drop-drop, drop-append-add}
+use lib.ListN.{length, getD, take, drop, replicate, length-map, length-take, length-drop, List·getD-map, List·getD-append}
+use lib.Seq.{length-take-le, getD-take, getD-drop, getD-append-add, drop-drop, drop-append-add}
 use Rattle.laws.specs.Lists.{gather}
 use Rattle.laws.specs.Parts.{front, pad}
 use Rattle.laws.proofs.Lists.{mem-take}
 use Rattle.laws.proofs.Parts.{pad-at, pad-beyond}
-use Rattle.laws.proofs.Fronts.{gather-length}
+use Rattle.laws.proofs.Fronts.{gather-length, front-length, front-within, front-behind}
 use Rattle.form.specs.Text.{Bytes, isBytes}
 use Rattle.record.specs.Records.{eventIn}
 use Rattle.book.specs.declared.Book.{Book}
@@ -22,8 +22,7 @@ use Rattle.calls.specs.Calls.{taken}
 use Rattle.demands.proofs.Checks.{accepted-zero, accepted-leaves}
 use Rattle.meaning.specs.Labels.{Entry, free, Held, heldAt, State, newHeld}
 use Rattle.meaning.specs.Room.{fewExclusions}
-use Rattle.disjunct.specs.declared.Disjunct.{Disjunct}
-use Rattle.disjunct.specs.Disjuncts.{viewDisjunct, disjunctOf}
+use Rattle.disjunct.specs.Disjuncts.{disjunctOf}
 use Rattle.disjunct.proofs.Disjuncts.{view-disjunct}
 use Rattle.state.specs.declared.State.{State as Struct}
 use Rattle.state.specs.States.{stateOf, heldFirst}
@@ -32,7 +31,7 @@ use Rattle.blocks.specs.StateBlock.{entryWords, groupWords, stateHeld, stateIn,
 use Rattle.blocks.specs.TallyBlock.{tallyIn}
 use Rattle.blocks.specs.Lent.{eventLeft}
 use Rattle.blocks.proofs.Groups.{groups-at, groups-gather}
-use Rattle.blocks.proofs.States.{Canonical, canonical-of, front-length, pool-long, positions-long, each-place, stored-parts, stored-length, stored-head}
+use Rattle.blocks.proofs.States.{Canonical, canonical-of, pool-long, positions-long, each-place, stored-parts, stored-length, stored-head}
 use Rattle.lent_runs.specs.Stored.{groupAt, heldNumber, StoredWords}
 use Rattle.lent_runs.proofs.Accepted.{few-after, each-after}
 use Rattle.lent_runs.proofs.Checks.{other-state}
@@ -52,9 +51,9 @@ module _ {A : Type 0} (f : A → List ℕ) (k : ℕ) (l : List A) (size : (x : A
       sym (groups-at k (length l) (gather f l ++ r) i h) ∙ ap (λ gs. getD gs i []) (groups-gather f k l size r)
       ∙ any-default (map f l) i [] (f d) (rw length-map h) ∙ List·getD-map f l i d
 
-  front-behind : (i : ℕ) → length l ≤ i → drop (k * i) (front (gather f l) w) ≡ drop (k * i) w
+  groups-behind : (i : ℕ) → length l ≤ i → drop (k * i) (front (gather f l) w) ≡ drop (k * i) w
   unfolding front
-  front-behind i h =
+  groups-behind i h =
       let g = gather f l in
       let j = i - length l in
       let long : length g ≡ k * length l = gather-length f k l size ∙ mul-comm (length l) k in
@@ -62,19 +61,6 @@ module _ {A : Type 0} (f : A → List ℕ) (k : ℕ) (l : List A) (size : (x : A
       let parts : k * i ≡ length g + k * j = ap (λ n. k * n) whole ∙ mul-add k (length l) j ∙ ap (λ n. n + k * j) (sym long) in
       ap (λ n. drop n (g ++ drop (length g) w)) parts ∙ drop-append-add g (drop (length g) w) (k * j) ∙ drop-drop (k * j) (length g) w
       ∙ ap (λ n. drop n w) (sym parts)
-
--- The i-th of the words that are written over the front of others, and one behind them.
-module _ (b l : List ℕ) where
-  front-word : (i : ℕ) → i < length b → getD (front b l) i 0 ≡ getD b i 0
-  unfolding front
-  front-word i h = List·getD-append b (drop (length b) l) 0 i h
-
-  front-after : (i : ℕ) → length b ≤ i → getD (front b l) i 0 ≡ getD l i 0
-  unfolding front
-  front-after i h =
-      let j = i - length b in
-      let e : i ≡ length b + j = omega arith in
-      ap (λ n. getD (b ++ drop (length b) l) n 0) e ∙ getD-append-add b (drop (length b) l) j 0 ∙ getD-drop (length b) l j 0 ∙ ap (λ n. getD l n 0) (sym e)
 
 -- A state stored in a block.
 module _ (w : List ℕ) (long : length w ≡ 3715) (p : State) (few : length (p .held) ≤ 128)
@@ -126,7 +112,7 @@ module _ (w : List ℕ) (long : length w ≡ 3715) (p : State) (few : length (p 
   -- one that is or was held is that of the state
   position-in : (i : ℕ) → i < m → i < 128 → getD after (3 + i) 0 ≡ getD (s .positions) i 0
   position-in i h k =
-      position-word i k ∙ front-word P (take 128 (drop 3 w)) i (omega (arith, P-long)) ∙ getD-take m (s .positions) i 0 h
+      position-word i k ∙ front-within P (take 128 (drop 3 w)) i 0 (omega (arith, P-long)) ∙ getD-take m (s .positions) i 0 h
 
   group-in : (i : ℕ) → i < m → i < 128 → groupAt after i ≡ groupWords (getD (s .pool) i (disjunctOf []))
   group-in i h k =
@@ -170,10 +156,10 @@ module _ (w : List ℕ) (long : length w ≡ 3715) (p : State) (few : length (p 
               ∙ free-words,
         );
         later = λ i h k u. (
-          position-word i u ∙ front-after P (take 128 (drop 3 w)) i (omega (arith, P-long)) ∙ getD-take 128 (drop 3 w) i 0 u ∙ getD-drop 3 w i 0,
+          position-word i u ∙ front-behind P (take 128 (drop 3 w)) i 0 (omega (arith, P-long)) ∙ getD-take 128 (drop 3 w) i 0 u ∙ getD-drop 3 w i 0,
           group-words i
               ∙ ap (take 28)
-              (front-behind groupWords 28 (take m (s .pool)) (λ d n. each-place s can d (mem-take m n) .size) (drop 131 w) i
+              (groups-behind groupWords 28 (take m (s .pool)) (λ d n. each-place s can d (mem-take m n) .size) (drop 131 w) i
               (omega (arith, length-take m (s .pool))) ∙ drop-drop (28 * i) 131 w),
         );
       }
