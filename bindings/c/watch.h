@@ -15,8 +15,11 @@
  *
  * Threads. Calls may run at once where none of them writes what another one is lent; so one book may serve many states.
  *
- * Stack. A call needs less than WATCH_STACK_BYTES. This was measured, on a book at all limits and 128 disjuncts held
- * (bindings/c/stack.c), and is not proved; what the calls give and leave is.
+ * Stack. A call needs less than WATCH_STACK_BYTES. This was measured, on books at all limits and with 128 disjuncts held
+ * (bindings/c/stack.c), and is not proved.
+ *
+ * What each call gives and leaves, as stated below, is proved of its source (crates/lent); that this header declares the same
+ * calls, and what the compiler makes of them, is tried by bindings/test.
  */
 #ifndef WATCH_H
 #define WATCH_H
