@@ -11,7 +11,8 @@ fn main() {
     let archive = folder.join("liblent.a");
     println!("cargo:rerun-if-changed={}", archive.display());
     if !archive.exists() {
-        panic!("there is no {}: make it by `rt staticlib lent`, or set WATCH_LIB_DIR", archive.display());
+        eprintln!("there is no {}: make it by `rt staticlib lent`, or set WATCH_LIB_DIR", archive.display());
+        std::process::exit(1);
     }
     println!("cargo:rustc-link-search=native={}", folder.display());
     println!("cargo:rustc-link-lib=static=lent");
