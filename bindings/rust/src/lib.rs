@@ -155,7 +155,14 @@ pub mod lent {
     mod archive {
         // liblent.a, as bindings/c/watch.h has it; nothing checks this against the Rattle source but bindings/test
         extern "C" {
-            pub fn watch_read(text: *const u8, text_size: usize, book: *mut u32, place: *mut usize, begins: *mut usize, ends: *mut usize) -> usize;
+            pub fn watch_read(
+                text: *const u8,
+                text_size: usize,
+                book: *mut u32,
+                place: *mut usize,
+                begins: *mut usize,
+                ends: *mut usize,
+            ) -> usize;
             pub fn watch_name(text: *const u8, text_size: usize, number: usize, start: *mut usize, size: *mut usize);
             pub fn watch_fresh(state: *mut u32);
             pub fn watch_event(

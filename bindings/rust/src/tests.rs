@@ -211,7 +211,8 @@ fn one_book_for_many_threads() {
                 for s in 0..10 {
                     state.event(book, &record(1, &[d, s]), &mut rows, 0, &mut tally).unwrap();
                 }
-                let values: Vec<u32> = state.event(book, &record(2, &[d]), &mut rows, 0, &mut tally).unwrap().map(|r| r.values()[1]).collect();
+                let values: Vec<u32> =
+                    state.event(book, &record(2, &[d]), &mut rows, 0, &mut tally).unwrap().map(|r| r.values()[1]).collect();
                 assert_eq!(values, (0..10).collect::<Vec<u32>>());
             });
         }
