@@ -239,8 +239,8 @@ static void try_written_out(void)
 {
     static const uint32_t head[] = {WATCH_BOOK_LAYOUT, 2, 3, 2, 2, 4, 0, 5, 1, 7, 1, 13, 4, 28, 4, 41, 5, 0};
     static const uint32_t table[] = {1, 2, 1, 0, 1, 1, 0, 0, 0, 0, 2, 1, 1, 0, 0, 0, 0, 0, 0, 0, 3, 1, 1, 0};
-    static const uint32_t load[] = {BOUND, 1, 0, 0, 0, 0, 0, BOUND, 7, 0, 0, 0, 0, 0, 0, 0, 0, 0, 0, 0, 0, 0, 0, 0, 0, 0, 0, 0};
-    static const uint32_t fill[] = {BOUND, 1, 0, 0, 0, 0, 0, 2, 7, 9, 0, 0, 0, 0, 0, 0, 0, 0, 0, 0, 0, 0, 0, 0, 0, 0, 0, 0};
+    static const uint32_t bound[] = {BOUND, 1, 0, 0, 0, 0, 0, BOUND, 7, 0, 0, 0, 0, 0, 0, 0, 0, 0, 0, 0, 0, 0, 0, 0, 0, 0, 0, 0};
+    static const uint32_t excluding[] = {BOUND, 1, 0, 0, 0, 0, 0, 2, 7, 9, 0, 0, 0, 0, 0, 0, 0, 0, 0, 0, 0, 0, 0, 0, 0, 0, 0, 0};
     static const uint8_t row[] = {2, 0, 0, 0, 2, 0, 0, 0, 1, 0, 0, 0, 7, 0, 0, 0, 0, 0, 0, 0, 0, 0, 0, 0};
     static const uint32_t zeros[GROUP_WORDS];
     uint32_t junk[2];
@@ -265,12 +265,12 @@ static void try_written_out(void)
     record_of(1, 2, 1, 7, 0, 0);
     check(take_whole() == WATCH_ACCEPTED && lent.count == 0, "load(1,7)");
     check(lent.state[0] == WATCH_STATE_LAYOUT && lent.state[1] == 1 && lent.state[2] == 1 && lent.state[3] == 1, "the head after load(1,7)");
-    check(memcmp(lent.state + POOL_FROM, load, sizeof load) == 0, "the group after load(1,7)");
+    check(memcmp(lent.state + POOL_FROM, bound, sizeof bound) == 0, "the group after load(1,7)");
     check(memcmp(lent.state + POSITIONS_FROM + 1, junk, sizeof junk) == 0, "the places behind after load(1,7)");
     record_of(2, 1, 1, 0, 0, 0);
     check(take(WATCH_RECORD_BYTES, lent.rows, ROWS_BYTES, 3) == WATCH_ACCEPTED && lent.count == 1, "drop(1)");
     check(memcmp(lent.rows + 3, row, sizeof row) == 0, "the row of drop(1)");
-    check(lent.state[2] == 1 && lent.state[3] == 2 && memcmp(lent.state + POOL_FROM, load, sizeof load) == 0, "the state after drop(1)");
+    check(lent.state[2] == 1 && lent.state[3] == 2 && memcmp(lent.state + POOL_FROM, bound, sizeof bound) == 0, "the state after drop(1)");
     record_of(3, 1, 1, 0, 0, 0);
     check(take_whole() == WATCH_ACCEPTED, "clean(1)");
     check(lent.state[2] == 0 && lent.state[3] == 0 && memcmp(lent.state + POOL_FROM, zeros, sizeof zeros) == 0, "zeros after clean(1)");
@@ -282,7 +282,7 @@ static void try_written_out(void)
     take_whole();
     record_of(1, 2, 1, 7, 0, 0);
     take_whole();
-    check(lent.state[2] == 1 && memcmp(lent.state + POOL_FROM, fill, sizeof fill) == 0, "exclusions ascend, zeros behind");
+    check(lent.state[2] == 1 && memcmp(lent.state + POOL_FROM, excluding, sizeof excluding) == 0, "exclusions ascend, zeros behind");
 }
 
 /* Runs from the fresh state, with words behind what is held, refused events between, and places in the buffer. */

@@ -7,7 +7,7 @@
 #include <stdlib.h>
 #include <string.h>
 
-#include "watch.h"
+#include "rules.h"
 
 #define STACK_BYTES (2 * 1024 * 1024)
 #define PATTERN 0xA5
@@ -94,10 +94,10 @@ static uint32_t below(uint32_t n)
     return (uint32_t)(draws >> 16) % n;
 }
 
-/* An event of some symbol of the book: its kind and count are the first words of the symbol's ten, which begin at word 47. */
+/* An event of some symbol of the book: its kind and count are the first words of the symbol. */
 static void draw_record(uint32_t values)
 {
-    const uint32_t *symbol = book + 47 + 10 * below(book[2]);
+    const uint32_t *symbol = book + TABLE_FROM + SYMBOL_WORDS * below(book[2]);
     uint32_t i;
 
     memset(record, 0, sizeof record);

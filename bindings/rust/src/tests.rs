@@ -15,16 +15,16 @@ fn record(kind: u8, arguments: &[u32]) -> [u8; RECORD_BYTES] {
 }
 
 // A book, a fresh state, a tally and room for all rows of an event.
-struct Bench {
+struct Setup {
     book: Book,
     state: State,
     tally: Tally,
     rows: Vec<u8>,
 }
 
-impl Bench {
-    fn new(text: &[u8]) -> Bench {
-        Bench {
+impl Setup {
+    fn new(text: &[u8]) -> Setup {
+        Setup {
             book: Book::read(text).expect("a text that is accepted"),
             state: State::fresh(),
             tally: Tally::default(),
@@ -87,43 +87,43 @@ fn refused_texts() {
 
 #[test]
 fn events_of_b1() {
-    let mut bench = Bench::new(B1);
+    let mut setup = Setup::new(B1);
     let none: Vec<Vec<u32>> = vec![];
-    assert_eq!(bench.event(1, &[1, 7]), Ok(none.clone()));
-    assert_eq!(bench.event(1, &[2, 8]), Ok(none.clone()));
-    assert_eq!(bench.event(2, &[1]), Ok(vec![vec![1, 7]]));
-    assert_eq!(bench.event(3, &[2]), Ok(none.clone()));
-    assert_eq!(bench.event(2, &[2]), Ok(none));
-    assert_eq!(bench.event(2, &[1]), Ok(vec![vec![1, 7]]));
-    assert_eq!(bench.tally, Tally { accepted: 6, refused: 0, rows: 2 });
+    assert_eq!(setup.event(1, &[1, 7]), Ok(none.clone()));
+    assert_eq!(setup.event(1, &[2, 8]), Ok(none.clone()));
+    assert_eq!(setup.event(2, &[1]), Ok(vec![vec![1, 7]]));
+    assert_eq!(setup.event(3, &[2]), Ok(none.clone()));
+    assert_eq!(setup.event(2, &[2]), Ok(none));
+    assert_eq!(setup.event(2, &[1]), Ok(vec![vec![1, 7]]));
+    assert_eq!(setup.tally, Tally { accepted: 6, refused: 0, rows: 2 });
 }
 
 #[test]
 fn fixed_argument() {
-    let mut bench = Bench::new(b"vars s\nsym load 1 =3 s\nmatch load\n");
-    assert_eq!(bench.event(1, &[4, 7]), Ok(vec![]));
-    assert_eq!(bench.event(1, &[3, 7]), Ok(vec![vec![7]]));
+    let mut setup = Setup::new(b"vars s\nsym load 1 =3 s\nmatch load\n");
+    assert_eq!(setup.event(1, &[4, 7]), Ok(vec![]));
+    assert_eq!(setup.event(1, &[3, 7]), Ok(vec![vec![7]]));
 }
 
 #[test]
 fn rows_from_a_place_on() {
-    let mut bench = Bench::new(b"vars\nsym a 1\nmatch a\n");
-    let rows = bench.state.event(&bench.book, &record(1, &[]), &mut bench.rows, 5, &mut bench.tally).unwrap();
+    let mut setup = Setup::new(b"vars\nsym a 1\nmatch a\n");
+    let rows = setup.state.event(&setup.book, &record(1, &[]), &mut setup.rows, 5, &mut setup.tally).unwrap();
     assert_eq!(rows.len(), 1);
     assert_eq!(rows.as_bytes()[..8], [1, 0, 0, 0, 0, 0, 0, 0]);
     let row = rows.clone().next().unwrap();
     assert_eq!((row.number, row.values()), (1, &[][..]));
     assert_eq!(rows.count(), 1);
-    assert!(bench.rows[..5].iter().chain(&bench.rows[5 + ROW_BYTES..]).all(|b| *b == 0xEE));
+    assert!(setup.rows[..5].iter().chain(&setup.rows[5 + ROW_BYTES..]).all(|b| *b == 0xEE));
 }
 
 #[test]
 fn several_rows_in_order() {
-    let mut bench = Bench::new(B1);
+    let mut setup = Setup::new(B1);
     for s in [9, 3, 0xFFFF_FFFF, 5] {
-        bench.event(1, &[1, s]).unwrap();
+        setup.event(1, &[1, s]).unwrap();
     }
-    let mut rows = bench.state.event(&bench.book, &record(2, &[1]), &mut bench.rows, 0, &mut bench.tally).unwrap();
+    let mut rows = setup.state.event(&setup.book, &record(2, &[1]), &mut setup.rows, 0, &mut setup.tally).unwrap();
     assert_eq!(rows.len(), 4);
     assert_eq!(rows.next().map(|r| (r.number, r.values().to_vec())), Some((5, vec![1, 3])));
     assert_eq!(rows.len(), 3);
@@ -134,70 +134,70 @@ fn several_rows_in_order() {
 
 #[test]
 fn refused_events_leave_all_but_the_tally() {
-    let mut bench = Bench::new(B1);
-    bench.event(1, &[1, 7]).unwrap();
-    let (state, rows) = (bench.state.clone(), bench.rows.clone());
-    let drop = record(2, &[1]);
+    let mut setup = Setup::new(B1);
+    setup.event(1, &[1, 7]).unwrap();
+    let (state, rows) = (setup.state.clone(), setup.rows.clone());
+    let last = record(2, &[1]);
     let mut refuse = |book: &Book, bytes: &[u8], size: usize, place: usize| {
-        let answer = bench.state.event(book, bytes, &mut bench.rows[..size], place, &mut bench.tally).map(|_| ()).unwrap_err();
+        let answer = setup.state.event(book, bytes, &mut setup.rows[..size], place, &mut setup.tally).map(|_| ()).unwrap_err();
         assert_eq!(answer.place, 0);
-        assert_eq!((&bench.state, &bench.rows), (&state, &rows));
+        assert_eq!((&setup.state, &setup.rows), (&state, &rows));
         answer.answer
     };
     let no_book = Book::from_words(&[0; BOOK_WORDS]);
-    assert_eq!(refuse(&no_book, &drop, 24, 0), Answer::Unsound);
-    assert_eq!(refuse(&bench.book, &drop[..19], 24, 0), Answer::OutOfForm);
-    assert_eq!(refuse(&bench.book, &[], 24, 0), Answer::OutOfForm);
-    assert_eq!(refuse(&bench.book, &drop, 23, 0), Answer::NoSpace);
-    assert_eq!(refuse(&bench.book, &drop, 0, 0), Answer::NoSpace);
-    assert_eq!(refuse(&bench.book, &drop, 48, 25), Answer::NoSpace);
-    assert_eq!(refuse(&bench.book, &drop, 48, usize::MAX), Answer::NoSpace);
-    assert_eq!(bench.tally, Tally { accepted: 1, refused: 7, rows: 0 });
+    assert_eq!(refuse(&no_book, &last, 24, 0), Answer::Unsound);
+    assert_eq!(refuse(&setup.book, &last[..19], 24, 0), Answer::OutOfForm);
+    assert_eq!(refuse(&setup.book, &[], 24, 0), Answer::OutOfForm);
+    assert_eq!(refuse(&setup.book, &last, 23, 0), Answer::NoSpace);
+    assert_eq!(refuse(&setup.book, &last, 0, 0), Answer::NoSpace);
+    assert_eq!(refuse(&setup.book, &last, 48, 25), Answer::NoSpace);
+    assert_eq!(refuse(&setup.book, &last, 48, usize::MAX), Answer::NoSpace);
+    assert_eq!(setup.tally, Tally { accepted: 1, refused: 7, rows: 0 });
 }
 
 #[test]
 fn no_room() {
-    let mut bench = Bench::new(B1);
+    let mut setup = Setup::new(B1);
     for s in 1..=128 {
-        assert_eq!(bench.event(1, &[1, s]), Ok(vec![]));
+        assert_eq!(setup.event(1, &[1, s]), Ok(vec![]));
     }
-    assert_eq!(bench.event(1, &[1, 129]), Err(Refusal { answer: Answer::NoRoom, place: 0 }));
-    assert_eq!(bench.event(2, &[1]).unwrap().len(), 128);
+    assert_eq!(setup.event(1, &[1, 129]), Err(Refusal { answer: Answer::NoRoom, place: 0 }));
+    assert_eq!(setup.event(2, &[1]).unwrap().len(), 128);
 }
 
 #[test]
 fn too_many() {
-    let mut bench = Bench::new(B1);
-    let mut words = *bench.state.words();
+    let mut setup = Setup::new(B1);
+    let mut words = *setup.state.words();
     words[1] = 999_999;
-    bench.state = State::from_words(&words);
-    assert_eq!(bench.event(9, &[]), Ok(vec![]));
-    assert_eq!(bench.event(9, &[]).unwrap_err().answer, Answer::TooMany);
+    setup.state = State::from_words(&words);
+    assert_eq!(setup.event(9, &[]), Ok(vec![]));
+    assert_eq!(setup.event(9, &[]).unwrap_err().answer, Answer::TooMany);
 }
 
 #[test]
 fn saved_and_loaded() {
-    let mut bench = Bench::new(B1);
-    bench.event(1, &[1, 7]).unwrap();
-    let saved: Vec<u8> = bench.state.words().iter().flat_map(|w| w.to_le_bytes()).collect();
+    let mut setup = Setup::new(B1);
+    setup.event(1, &[1, 7]).unwrap();
+    let saved: Vec<u8> = setup.state.words().iter().flat_map(|w| w.to_le_bytes()).collect();
     let words: Vec<u32> = saved.chunks(4).map(|b| u32::from_le_bytes([b[0], b[1], b[2], b[3]])).collect();
-    bench.state = State::from_words(words.as_slice().try_into().unwrap());
-    assert_eq!(bench.event(2, &[1]), Ok(vec![vec![1, 7]]));
-    let mut other = *bench.state.words();
+    setup.state = State::from_words(words.as_slice().try_into().unwrap());
+    assert_eq!(setup.event(2, &[1]), Ok(vec![vec![1, 7]]));
+    let mut other = *setup.state.words();
     assert_eq!(other[0], STATE_LAYOUT);
     other[0] += 1;
-    bench.state = State::from_words(&other);
-    assert_eq!(bench.event(2, &[1]).unwrap_err().answer, Answer::Unsound);
+    setup.state = State::from_words(&other);
+    assert_eq!(setup.event(2, &[1]).unwrap_err().answer, Answer::Unsound);
 }
 
 #[test]
 fn counters_stop() {
-    let mut bench = Bench::new(B1);
-    bench.event(1, &[1, 7]).unwrap();
-    bench.tally = Tally { accepted: u64::MAX, refused: u64::MAX, rows: u64::MAX };
-    bench.event(2, &[1]).unwrap();
-    bench.event(0, &[]).unwrap_err();
-    assert_eq!(bench.tally, Tally { accepted: u64::MAX, refused: u64::MAX, rows: u64::MAX });
+    let mut setup = Setup::new(B1);
+    setup.event(1, &[1, 7]).unwrap();
+    setup.tally = Tally { accepted: u64::MAX, refused: u64::MAX, rows: u64::MAX };
+    setup.event(2, &[1]).unwrap();
+    setup.event(0, &[]).unwrap_err();
+    assert_eq!(setup.tally, Tally { accepted: u64::MAX, refused: u64::MAX, rows: u64::MAX });
 }
 
 #[test]
