@@ -107,25 +107,35 @@ static void draw_record(uint32_t values)
         record[4 + 4 * i] = (uint8_t)below(values);
 }
 
-/* A text of 4,096 bytes at all limits: 4 variables, 16 symbols, 31 occurrences, 16 parentheses open together, names of 12 bytes.
- * Symbol 0 binds all variables and stands at the left or right end of each word; before it variables are left free. */
-static const char *limits(int left)
+/* Texts of 4,096 bytes at all limits: 4 variables, 16 symbols, 31 occurrences, 16 parentheses open together. Symbol 0 binds all
+ * variables and stands in each word, first or last of 30 optional ones, so that 128 disjuncts are held soon, with variables bound or
+ * free; or what may stand before the innermost parenthesis all does, which is deepest for the reader: it calls itself for each
+ * parenthesis, for each further item and for each further alternative; deepest of all is one occurrence too many, which is refused. */
+enum limits { FIRST, LAST, DEEP, OVER };
+
+static const char *limits(enum limits which)
 {
     static const char *const arguments[] = {"va va vb vb", "va vb _ _", "vb _ vc _", "_ vc vd _", "vd _ _ va", "va vb vc vd", "vd vc vb va"};
     static char made[4097];
-    int size, i, k;
+    int size, i;
 
     size = sprintf(made, "vars va vb vc vd\nsym symbolnumb00 1 va vb vc vd\n");
     for (i = 1; i < 16; i++)
         size += sprintf(made + size, "sym symbolnumb%02d %d %s\n", i, 1 + i % 5, arguments[i % 7]);
     size += sprintf(made + size, "match ");
-    for (i = 0; i < 16; i++)
+    for (i = 0; i < 16; i++) {
+        if (which >= DEEP)
+            size += sprintf(made + size, i < 14 ? "symbolnumb00 symbolnumb%02d " : "symbolnumb%02d ", i);
         size += sprintf(made + size, "(");
-    if (left)
+    }
+    if (which != LAST)
         size += sprintf(made + size, "symbolnumb00");
-    for (k = 0; k < 30; k++)
-        size += sprintf(made + size, "%ssymbolnumb%02d*", k % 2 || k == 0 ? " " : ") ", 1 + k % 15);
-    size += sprintf(made + size, "%s))", left ? "" : " symbolnumb00");
+    for (i = 0; i < 30 && which < DEEP; i++)
+        size += sprintf(made + size, "%ssymbolnumb%02d*", i % 2 || i == 0 ? " " : ") ", 1 + i % 15);
+    if (which == LAST || which == OVER)
+        size += sprintf(made + size, " symbolnumb00");
+    for (i = 0; i < (which >= DEEP ? 16 : 2); i++)
+        size += sprintf(made + size, ")");
     for (; size < 4095; size++)
         made[size] = ' ';
     made[4095] = '\n';
@@ -195,11 +205,16 @@ int main(void)
     if (posix_memalign(&memory, 65536, STACK_BYTES) != 0)
         return 1;
     stack = (uint8_t *)memory;
-    run(limits(1), 200, 2);
-    run(limits(1), 200, 200);
-    run(limits(0), 200, 2);
-    run(limits(0), 200, 200);
+    run(limits(FIRST), 200, 2);
+    run(limits(FIRST), 200, 200);
+    run(limits(LAST), 200, 2);
+    run(limits(LAST), 200, 200);
+    run(limits(DEEP), 200, 3);
     run_rows();
+    text = limits(OVER);
+    measure(call_read, &reading);
+    measure(call_name, &naming);
+    answers[answer]++;
     printf("stack in bytes: watch_read %lu, watch_name %lu, watch_fresh %lu, watch_event %lu\n", (unsigned long)reading, (unsigned long)naming,
            (unsigned long)freshening, (unsigned long)taking);
     printf("an event had up to %lu rows, a state up to %lu disjuncts; answers", (unsigned long)most_rows, (unsigned long)most_held);
@@ -207,6 +222,7 @@ int main(void)
         if (answers[i] > 0)
             printf(" %lu: %lu", (unsigned long)i, (unsigned long)answers[i]);
     deepest = reading > taking ? reading : taking;
+    deepest = naming > deepest ? naming : deepest;
     printf("\n%s the calls need less than WATCH_STACK_BYTES, %lu\n", deepest < WATCH_STACK_BYTES ? "ok" : "FAILED", (unsigned long)WATCH_STACK_BYTES);
     return deepest >= WATCH_STACK_BYTES;
 }

@@ -15,8 +15,8 @@
  *
  * Threads. Calls may run at once where none of them writes what another one is lent; so one book may serve many states.
  *
- * Stack. A call needs less than WATCH_STACK_BYTES. This was measured, on books at all limits and with 128 disjuncts held
- * (bindings/c/stack.c), and is not proved.
+ * Stack. A call needs under 256 KB. This was measured, on texts and books at all limits and with 128 disjuncts held (203,000 bytes
+ * for watch_read and watch_name, 177,000 for watch_event; bindings/c/stack.c holds them to it), and is not proved.
  *
  * What each call gives and leaves, as stated below, is proved of its source (crates/lent); that this header declares the same
  * calls, and what the compiler makes of them, is tried by bindings/test.
@@ -46,7 +46,7 @@ extern "C" {
 #define WATCH_EVENT_ROWS (16 * 129)
 
 /* The stack that a call needs, at most. */
-#define WATCH_STACK_BYTES (512 * 1024)
+#define WATCH_STACK_BYTES (256 * 1024)
 
 /* The words of a tally. */
 enum {

@@ -41,7 +41,7 @@ pub const ROW_BYTES: usize = 24;
 /// The most rows that one event has.
 pub const EVENT_ROWS: usize = 16 * 129;
 /// The stack that a call needs, at most: measured (bindings/c/stack.c), not proved.
-pub const STACK_BYTES: usize = 512 * 1024;
+pub const STACK_BYTES: usize = 256 * 1024;
 
 /// What a call answers, by the numbers of document 01.
 #[derive(Clone, Copy, Debug, PartialEq, Eq, Hash)]
