@@ -30,7 +30,7 @@ fails true h = absurd (h refl)
 fails false h = refl
 
 -- the word j of a group
-word-of : (k at : ℕ) (w : List ℕ) (j : ℕ) → j < k → getD (take k (drop at w)) j 0 ≡ getD w (at + j) 0
+pub word-of : (k at : ℕ) (w : List ℕ) (j : ℕ) → j < k → getD (take k (drop at w)) j 0 ≡ getD w (at + j) 0
 word-of k at w j h = getD-take k (drop at w) j 0 h ∙ getD-drop at w j 0
 
 -- the code of a variable, out of range, is that of no slot whose counts are in range
@@ -46,7 +46,7 @@ module _ (s : List ℕ) (i v : ℕ) (h : i < getD s 2 0) (k : i < 128) (u : v < 
   abbrev slot : List ℕ
   slot = take 7 (drop (7 * v) group)
 
-  held-at : getD (stateHeld s .pool) i (disjunctIn []) ≡ disjunctIn group
+  pub held-at : getD (stateHeld s .pool) i (disjunctIn []) ≡ disjunctIn group
   unfolding stateHeld
   held-at =
       let n = getD s 2 0 in
