@@ -242,7 +242,8 @@ module _ (s : State) (c : Canonical s) (t : State) (e : Canonical t) where
       stored-parts w (state-length s c) t e
       ∙ ap (λ r. stateHead t ++ r)
       (ap₂ (λ a b. front (take k (t .positions)) a ++ front (gather groupWords (take k (t .pool))) b)
-      (take-at (s .positions) (gather groupWords (s .pool)) 128 (positions-long s c)) (drop-at (s .positions) (gather groupWords (s .pool)) 128 (positions-long s c))
+      (take-at (s .positions) (gather groupWords (s .pool)) 128 (positions-long s c))
+      (drop-at (s .positions) (gather groupWords (s .pool)) 128 (positions-long s c))
       ∙ ap₂ _++_ positions-over groups-over)
 
 pub state-back : (s : State) → Canonical s → stateIn (stateWords s) ≡ s

@@ -44,25 +44,37 @@ module _ (text : Bytes) (r : Reading) (same : r ≡ reading text) where
   read-refused n p k w number place more size words =
       rw (← same, ← number, ← place, words, size, ne-eqb n 0 more)
 
--- An event taken over what the words say.
-module _ (w sw : List ℕ) (bytes buffer : Bytes) (place : ℕ) (tw : List ℕ) (b : Book) (s : State) (t : Tally) (r : Taken) (book : b ≡ bookIn w)
-    (state : s ≡ stateIn sw) (tally : t ≡ tallyIn tw) (made : r ≡ taken b s bytes buffer place t) where
+-- An event taken over what the words say: r is what the call by value handed back.
+pub record Over (w sw : List ℕ) (bytes buffer : Bytes) (place : ℕ) (tw : List ℕ) (b : Book) (s : State) (t : Tally) (r : Taken) : Type 0 where
+  pub book : b ≡ bookIn w
+  pub state : s ≡ stateIn sw
+  pub tally : t ≡ tallyIn tw
+  pub made : r ≡ taken b s bytes buffer place t
+
+pub of-words : {w sw : List ℕ} {bytes buffer : Bytes} {place : ℕ} {tw : List ℕ} {b : Book} {s : State} {t : Tally} {r : Taken}
+    → b ≡ bookIn w → s ≡ stateIn sw → t ≡ tallyIn tw → r ≡ taken b s bytes buffer place t → Over w sw bytes buffer place tw b s t r
+of-words x y z e = record { book = x; state = y; tally = z; made = e }
+
+module _ {w sw : List ℕ} {bytes buffer : Bytes} {place : ℕ} {tw : List ℕ} {b : Book} {s : State} {t : Tally} {r : Taken}
+    (o : Over w sw bytes buffer place tw b s t r) where
   whole : r ≡ taken (bookIn w) (stateIn sw) bytes buffer place (tallyIn tw)
-  whole = made ∙ ap (λ u. taken b s bytes buffer place u) tally ∙ ap₂ (λ c z. taken c z bytes buffer place (tallyIn tw)) book state
+  whole =
+      o .made ∙ ap (λ u. taken b s bytes buffer place u) (o .tally) ∙ ap₂ (λ c z. taken c z bytes buffer place (tallyIn tw)) (o .book) (o .state)
 
   -- what it leaves, where the state's words are as they must be
-  pub event-left : (n : ℕ) (rows tallies words : List ℕ) → n ≡ numberOf (r .answer) → rows ≡ bufferAfter b s bytes buffer place → tallies ≡ tallyWords (r .tally)
+  pub event-left : {n : ℕ} {rows tallies words : List ℕ} → n ≡ numberOf (r .answer) → rows ≡ bufferAfter b s bytes buffer place
+      → tallies ≡ tallyWords (r .tally)
       → words ≡ cond (isAccepted (r .answer)) (stateStored sw (r .state)) sw
       → eventLeft w sw bytes buffer place tw ≡ record { number = n; rows = r .rows; buffer = rows; tally = tallies; state = words }
   unfolding eventLeft
-  event-left n rows tallies words number left counters stored =
-      rw (number, left, counters, stored, book, state, whole)
+  event-left number left counters stored =
+      rw (number, left, counters, stored, o .book, o .state, whole)
 
   -- a refused one leaves them
-  pub kept : (n : ℕ) → n ≡ numberOf (r .answer) → (n ≡ 0 → ⊥) → sw ≡ cond (isAccepted (r .answer)) (stateStored sw (r .state)) sw
-  kept n number more = rw (refused-number (r .answer) (λ z. more (number ∙ z)))
+  pub kept : {n : ℕ} → n ≡ numberOf (r .answer) → (n ≡ 0 → ⊥) → sw ≡ cond (isAccepted (r .answer)) (stateStored sw (r .state)) sw
+  kept number more = rw (refused-number (r .answer) (λ z. more (number ∙ z)))
 
-  module _ (lent : isBytes bytes ≡ true) (n : ℕ) (number : n ≡ numberOf (r .answer)) (zero : n ≡ 0) where
+  module _ (lent : isBytes bytes ≡ true) {n : ℕ} (number : n ≡ numberOf (r .answer)) (zero : n ≡ 0) where
     accepted : numberOf (taken (bookIn w) (stateIn sw) bytes buffer place (tallyIn tw) .answer) ≡ 0
     accepted = ap (λ r. numberOf (r .answer)) (sym whole) ∙ sym number ∙ zero
 
@@ -73,14 +85,14 @@ module _ (w sw : List ℕ) (bytes buffer : Bytes) (place : ℕ) (tw : List ℕ) 
     -- the counts of what was held and of what is held
     pub old-count : s .count ≡ getD sw 2 0
     unfolding stateIn stateHeld eventLeft
-    old-count = ap (λ z. z .count) state ∙ go (eqb (getD sw 0 0) 2001) refl
+    old-count = ap (λ z. z .count) (o .state) ∙ go (eqb (getD sw 0 0) 2001) refl
       where
         go : (z : Bool) → eqb (getD sw 0 0) 2001 ≡ z → stateIn sw .count ≡ getD sw 2 0
         go true e = ap (λ z. cond z (stateHeld sw) unknownState .count) e
         go false e = absurd (let nine = other-state w sw bytes buffer place tw (eqb-false (getD sw 0 0) 2001 e) in omega (arith, nine, accepted))
 
     pub few-old : s .count ≤ 128
-    few-old = rw state (few-before (bookIn w) (stateIn sw) bytes lent buffer place (tallyIn tw) accepted)
+    few-old = rw (o .state) (few-before (bookIn w) (stateIn sw) bytes lent buffer place (tallyIn tw) accepted)
 
     pub few-new : r .state .count ≤ 128
     few-new = rw whole (canonical-after (bookIn w) (stateIn sw) bytes lent buffer place (tallyIn tw) accepted .few)

@@ -220,7 +220,9 @@ module _ (text : Bytes) (read : readLeft text .number ≡ 0) (d : Declarations) 
         let (x, g) = accepted-backed text read xs hx i a k in
         let (y, f) = accepted-backed text read ys hy j c v in
         let met : Alike tm (traceOf (runOver text (calls xs))) (traceOf (runOver text (calls ys))) (suc i) (suc j) (seen b′ a) (seen b′ c) =
-        subst (λ m. Alike tm (traceOf (runOver text (calls xs))) (traceOf (runOver text (calls ys))) (suc i) (suc j) m (seen b′ c)) same (subst (λ m. Alike tm (traceOf (runOver text (calls xs))) (traceOf (runOver text (calls ys))) (suc i) (suc j) (z .first i inside) m) partner (z .alike i inside)) in
+        subst (λ m. Alike tm (traceOf (runOver text (calls xs))) (traceOf (runOver text (calls ys))) (suc i) (suc j) m (seen b′ c)) same
+        (subst (λ m. Alike tm (traceOf (runOver text (calls xs))) (traceOf (runOver text (calls ys))) (suc i) (suc j) (z .first i inside) m) partner
+        (z .alike i inside)) in
         let alike : Alike tm (lentTrace X) (lentTrace Y) (suc i) (suc j) (seen b′ a) (seen b′ c) =
         subst (λ t. Alike tm t (lentTrace Y) (suc i) (suc j) (seen b′ a) (seen b′ c)) (trace-over text read xs hx)
         (subst (λ u. Alike tm (traceOf (runOver text (calls xs))) u (suc i) (suc j) (seen b′ a) (seen b′ c)) (trace-over text read ys hy) met) in

@@ -1,5 +1,5 @@
--- The words of the lent calls, each with its text: what stands where in a block, for any words, and what the calls hand back and leave. So that a layout, or what
--- a call leaves, cannot be another one than is stated here and in bindings/c/watch.h.
+-- The words of the lent calls, each with its text: what stands where in a block, for any words, and what the calls hand back and leave. So that
+-- a layout, or what a call leaves, cannot be another one than is stated here and in bindings/c/watch.h.
 use mathlib.Core.Path.{_≡_, refl, sym, ap, ap₂, _∙_}
 use mathlib.Core.Bool.{Bool, true, false, cond, not}
 use mathlib.Core.List.{List, [], _∷_, _++_, map}
@@ -113,12 +113,14 @@ module _ (w : List ℕ) (layout : getD w 0 0 ≡ 2001) where
   seven i v k u long =
       let group = take 28 (drop (28 * i) (drop 131 w)) in
       let at = 131 + 28 * i + 7 * v in
-      let behind : length (drop (28 * i) (drop 131 w)) ≡ 3584 - 28 * i = length-drop (28 * i) (drop 131 w) ∙ ap (λ n. n - 28 * i) (length-drop 131 w ∙ omega arith) in
+      let behind : length (drop (28 * i) (drop 131 w)) ≡ 3584 - 28 * i =
+      length-drop (28 * i) (drop 131 w) ∙ ap (λ n. n - 28 * i) (length-drop 131 w ∙ omega arith) in
       let wide : length group ≡ 28 = length-take-le 28 (drop (28 * i) (drop 131 w)) (omega arith) in
       let left : length (take 7 (drop (7 * v) group)) ≡ 7 = length-take-le 7 (drop (7 * v) group) (omega (arith, length-drop (7 * v) group)) in
       let right : length (take 7 (drop at w)) ≡ 7 = length-take-le 7 (drop at w) (omega (arith, length-drop at w)) in
       ext-getD 0 (take 7 (drop (7 * v) group)) (take 7 (drop at w)) (left ∙ sym right) λ j h.
-      word-of 7 (7 * v) group j (omega arith) ∙ part-word 28 (28 * i) 131 w (7 * v + j) (at + j) (omega arith) (omega arith) ∙ sym (word-of 7 at w j (omega arith))
+      word-of 7 (7 * v) group j (omega arith) ∙ part-word 28 (28 * i) 131 w (7 * v + j) (at + j) (omega arith) (omega arith)
+      ∙ sym (word-of 7 at w j (omega arith))
 
   abbrev s : State
   s = stateIn w
@@ -167,7 +169,8 @@ book-words-said b = refl
 pub entry-words-said : ((a : ℕ) → entryWords (bound a) ≡ 7 ∷ a ∷ 0 ∷ 0 ∷ 0 ∷ 0 ∷ 0 ∷ []) × ((xs : List ℕ) → entryWords (free xs) ≡ length xs ∷ pad 6 0 xs)
 entry-words-said = (λ a. refl, λ xs. refl)
 
-pub state-words-said : (s : State) → stateWords s ≡ 2001 ∷ s .number ∷ s .count ∷ [] ++ s .positions ++ gather (λ d. gather entryWords (viewDisjunct d)) (s .pool)
+pub state-words-said : (s : State)
+    → stateWords s ≡ 2001 ∷ s .number ∷ s .count ∷ [] ++ s .positions ++ gather (λ d. gather entryWords (viewDisjunct d)) (s .pool)
 unfolding stateWords groupWords
 state-words-said s = refl
 
@@ -215,7 +218,12 @@ pub lent-trace-said : (ms : List LentMade) → (lentAccepted ms ≡ keep (λ m. 
 lent-trace-said ms = (refl, refl, refl)
 
 pub lent-as-said : (c : LentCall) → lentAs c
-    ≡ record { bytes = c .bytes; buffer = c .buffer; place = c .place; tally = record { accepted = getD (c .tally) 0 0; refused = getD (c .tally) 1 0; rows = getD (c .tally) 2 0 } }
+    ≡ record {
+      bytes = c .bytes;
+      buffer = c .buffer;
+      place = c .place;
+      tally = record { accepted = getD (c .tally) 0 0; refused = getD (c .tally) 1 0; rows = getD (c .tally) 2 0 };
+    }
 unfolding tallyIn
 lent-as-said c = refl
 

@@ -144,7 +144,8 @@ module _ (w : List ℕ) (long : length w ≡ 3715) (p : State) (few : length (p 
         groups = λ i h.
             group-in i (omega arith) (omega arith)
             ∙ ap groupWords
-            (pad-at 128 (disjunctOf []) (map (λ h. disjunctOf (h .disjunct)) held) i (disjunctOf []) (omega (arith, length-map held (λ h. disjunctOf (h .disjunct))))
+            (pad-at 128 (disjunctOf []) (map (λ h. disjunctOf (h .disjunct)) held) i (disjunctOf [])
+            (omega (arith, length-map held (λ h. disjunctOf (h .disjunct))))
             ∙ List·getD-map (λ h. disjunctOf (h .disjunct)) held i (heldAt 0 []))
             ∙ disjunct-words (heldNumber held i .disjunct);
         freed = λ i h k u. (
