@@ -26,9 +26,9 @@ fn count(seed: u64) -> usize {
     let any = draws::below(seed, 11, 129) as usize;
     match draws::below(seed, 10, 16) {
         0 => 0,
-        1 => PLACES,
-        2 => PLACES - any % 4,
-        3..=4 => any,
+        1..=2 => PLACES,
+        3 => PLACES - any % 4,
+        4 => any,
         _ => 1 + any % 6,
     }
 }
@@ -98,13 +98,23 @@ fn behind(e: Entry, least: u32, more: u64) -> u32 {
     raised(least, more)
 }
 
+// Whether an entry has the `d` of the one before it: one time in three, or in a quarter of all cases nearly always.
+fn is_same(seed: u64, k: u64) -> bool {
+    let x = draws::below(seed, k, 30);
+    if draws::below(seed, 15, 4) == 0 {
+        x != 0
+    } else {
+        x < 10
+    }
+}
+
 // The first entry of a position, or one behind another: with the same `d`, or with a larger one.
 fn next(seed: u64, i: usize, e: Entry, position: u32) -> Entry {
     let k = 1000 + i as u64 % 200 * 16;
     let s = least(seed, LEAST_S);
     let more = draws::below(seed, k, 3);
     let first = e.position != position;
-    if !first && draws::below(seed, k + 1, 3) == 0 {
+    if !first && is_same(seed, k + 1) {
         return entries::valued(position, e.d, behind(e, s, more));
     }
     let step = 1 + draws::below(seed, k + 2, 2) % 2;

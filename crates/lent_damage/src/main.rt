@@ -1,0 +1,179 @@
+// Damaged words of books and states, records, places, buffers and tallies, from a generator with a fixed start, are lent to the event call, and every
+// word and byte that it leaves is compared with what document 01 and the description of the blocks say. Prints how many cases there were, how they
+// were answered, the rows, how many states came to hold fewer disjuncts, and the differences.
+use block_cases::layout;
+use block_cases::layout::BOOK_WORDS;
+use block_cases::layout::STATE_WORDS;
+use block_cases::leaving;
+use block_cases::lending;
+use block_cases::lending::BUFFER;
+use block_cases::lending::Case;
+use block_cases::lending::Space;
+use block_cases::states;
+use corrupted::amounts;
+use corrupted::sizes::RECORD_ROOM;
+use oracle::moves;
+use oracle::moves::Move;
+use oracle::moves::Outcome;
+ghost use Prim.Native.Nat.{_≤_};
+
+const CASES: u32 = 24000;
+
+// A score: how many got each answer, by its number; then rows, states that hold fewer disjuncts, and differences.
+const ROWS: usize = 14;
+
+const FEWER: usize = 15;
+
+const DIFFERENCES: usize = 16;
+
+const SCORES: usize = 17;
+
+// A number, or the largest that may be.
+fn at_most(x: usize, most: usize) -> usize
+    ensures { λ r. ⌜ r ≤ most ⌝ }
+{
+    if x <= most { x } else { most }
+}
+
+fn counted(score: &mut [u32], i: usize, more: usize) {
+    let old = cells::get(score, i);
+    cells::put(
+        score,
+        i,
+        old % 1000000000 + amounts::short(more as u64 % 1000),
+    );
+}
+
+// The call with so many bytes of the record and of the buffer.
+fn call(
+    seed: u64,
+    c: Case,
+    s: Space,
+    book: &[u32; BOOK_WORDS],
+    state: &mut [u32; STATE_WORDS],
+    rows: &mut [u8],
+    tally: &mut [u64; 3],
+    count: &mut usize,
+) -> usize {
+    let l = lending::record(seed, c);
+    let bytes = l.bytes;
+    let length = at_most(l.length, RECORD_ROOM);
+    let size = at_most(s.size, rows.len());
+    lent::watch_event(
+        book,
+        state,
+        &bytes[..length],
+        &mut rows[..size],
+        s.place,
+        tally,
+        count,
+    )
+}
+
+// What must be left of the state and of the buffer, over what was lent.
+fn put_left(c: Case, m: Move, o: Outcome, s: Space, state: &mut [u32], rows: &mut [u8]) {
+    let h = c.held;
+    let next = o.held;
+    let number = amounts::up(c.number);
+    states::put_next(state, number, h.count, next);
+    if 0 < leaving::rows(c, o) {
+        leaving::put_rows(rows, s.place, number, m, o);
+    }
+}
+
+fn same_tally(a: [u64; 3], b: [u64; 3]) -> bool {
+    (a[0] == b[0]) & (a[1] == b[1]) & (a[2] == b[2])
+}
+
+// One case: what is lent is drawn, the call is made, and what it leaves is compared.
+fn one(seed: u64, score: &mut [u32]) {
+    let c = lending::drawn(seed);
+    let m = lending::meant(seed, c);
+    let h = c.held;
+    let o = moves::after(h, m);
+    let next = o.held;
+    let s = lending::drawn_space(seed, leaving::rows(c, o));
+    let answer = leaving::answer(c, m, o, s);
+    let count = if answer == 0 { leaving::rows(c, o) } else { 0 };
+    let mut book = [0u32; BOOK_WORDS];
+    lending::put_book(seed, c, &mut book);
+    let book_left = book;
+    let mut state = [0u32; STATE_WORDS];
+    lending::put_state(seed, c, &mut state);
+    let mut state_left = state;
+    let mut rows = [0u8; BUFFER];
+    lending::fill(seed, &mut rows);
+    let mut rows_left = rows;
+    let mut tally = lending::tally(seed);
+    let tally_left = leaving::tally(tally, answer, count);
+    if answer == 0 {
+        put_left(c, m, o, s, &mut state_left, &mut rows_left);
+    }
+    let mut n: usize = 77;
+    let r = call(seed, c, s, &book, &mut state, &mut rows, &mut tally, &mut n);
+    let good = (r == answer)
+        & (n == count)
+        & layout::same(&state, &state_left)
+        & check::same(&rows, &rows_left)
+        & same_tally(tally, tally_left)
+        & layout::same(&book, &book_left);
+    counted(score, r, 1);
+    counted(score, ROWS, n);
+    if answer == 0 && next.count < h.count {
+        counted(score, FEWER, 1);
+    }
+    if !good {
+        counted(score, DIFFERENCES, 1);
+    }
+}
+
+fn line(n: u32, word: &[u8]) {
+    io::print_decimal(1, n as u64);
+    io::write_all(1, word);
+}
+
+fn report(score: &[u32]) {
+    line(CASES, b" cases\n");
+    line(cells::get(score, 0), b" answered 0\n");
+    line(cells::get(score, 9), b" answered 9\n");
+    line(cells::get(score, 10), b" answered 10\n");
+    line(cells::get(score, 11), b" answered 11\n");
+    line(cells::get(score, 12), b" answered 12\n");
+    line(cells::get(score, 13), b" answered 13\n");
+    line(cells::get(score, ROWS), b" rows\n");
+    line(cells::get(score, FEWER), b" states with fewer disjuncts\n");
+    line(cells::get(score, DIFFERENCES), b" differences\n");
+}
+
+// Whether the words of the read book are those that are written here by hand.
+fn as_read() -> bool {
+    let mut book = [0u32; BOOK_WORDS];
+    let mut read = [1u32; BOOK_WORDS];
+    let mut place: usize = 1;
+    let mut begins: usize = 0;
+    let mut ends: usize = 0;
+    block_cases::books::put_book(&mut book);
+    let answer = lent::watch_read(
+        b"vars d s\nsym open 5 d\nsym fill 1 d s\nsym close 6 d\nsym reset 8 _\nmatch open fill close\n",
+        &mut read,
+        &mut place,
+        &mut begins,
+        &mut ends,
+    );
+    (answer == 0) & (place == 0) & (begins == 1) & (ends == 1) & layout::same(&book, &read)
+}
+
+fn main() {
+    let mut score = [0u32; SCORES];
+    if !as_read() {
+        counted(&mut score, DIFFERENCES, 1);
+    }
+    let mut seed: u64 = 20270115;
+    let mut i: u32 = 0;
+    while i < CASES {
+        seed = draws::next(seed);
+        one(seed, &mut score);
+        i += 1;
+    }
+    report(&score);
+}
