@@ -54,6 +54,11 @@ pub fn answer(c: Case, m: Move, o: Outcome, s: Space) -> usize {
     if fits(s, rows(c, o)) { 0 } else { 13 }
 }
 
+// How many rows the call lists.
+pub fn listed(c: Case, o: Outcome, answer: usize) -> usize {
+    if answer == 0 { rows(c, o) } else { 0 }
+}
+
 // "a counter stops at the largest 64-bit value"
 fn counted(x: u64, more: u64) -> u64 {
     if 18446744073709551615 - x < more {

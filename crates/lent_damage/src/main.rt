@@ -11,6 +11,7 @@ use block_cases::lending::Case;
 use block_cases::lending::Space;
 use block_cases::states;
 use corrupted::amounts;
+use corrupted::records::Lent;
 use corrupted::sizes::RECORD_ROOM;
 use oracle::moves;
 use oracle::moves::Move;
@@ -35,19 +36,15 @@ fn at_most(x: usize, most: usize) -> usize
     if x <= most { x } else { most }
 }
 
-fn counted(score: &mut [u32], i: usize, more: usize) {
-    let old = cells::get(score, i);
-    cells::put(
-        score,
-        i,
-        old % 1000000000 + amounts::short(more as u64 % 1000),
-    );
+fn counted(score: &mut [u32; SCORES], i: usize, more: usize) {
+    if i < SCORES {
+        score[i] = score[i] % 1000000000 + (more % 1000) as u32;
+    }
 }
 
 // The call with so many bytes of the record and of the buffer.
 fn call(
-    seed: u64,
-    c: Case,
+    l: Lent,
     s: Space,
     book: &[u32; BOOK_WORDS],
     state: &mut [u32; STATE_WORDS],
@@ -55,7 +52,6 @@ fn call(
     tally: &mut [u64; 3],
     count: &mut usize,
 ) -> usize {
-    let l = lending::record(seed, c);
     let bytes = l.bytes;
     let length = at_most(l.length, RECORD_ROOM);
     let size = at_most(s.size, rows.len());
@@ -85,8 +81,47 @@ fn same_tally(a: [u64; 3], b: [u64; 3]) -> bool {
     (a[0] == b[0]) & (a[1] == b[1]) & (a[2] == b[2])
 }
 
+fn same_book(a: &[u32; BOOK_WORDS], b: &[u32; BOOK_WORDS]) -> bool {
+    layout::same(a, b)
+}
+
+fn same_state(a: &[u32; STATE_WORDS], b: &[u32; STATE_WORDS]) -> bool {
+    layout::same(a, b)
+}
+
+fn same_rows(a: &[u8; BUFFER], b: &[u8; BUFFER]) -> bool {
+    check::same(a, b)
+}
+
+// Whether the call leaves what it must: the answer, the count of rows, the words of book, state and tally, and the buffer.
+fn agrees(seed: u64, c: Case, m: Move, o: Outcome, s: Space, answer: usize, count: usize) -> bool {
+    let mut book = [0u32; BOOK_WORDS];
+    let mut state = [0u32; STATE_WORDS];
+    let mut rows = [0u8; BUFFER];
+    let mut tally = lending::tally(seed);
+    lending::put_book(seed, c, &mut book);
+    lending::put_state(seed, c, &mut state);
+    lending::fill(seed, &mut rows);
+    let book_left = book;
+    let mut state_left = state;
+    let mut rows_left = rows;
+    let tally_left = leaving::tally(tally, answer, count);
+    if answer == 0 {
+        put_left(c, m, o, s, &mut state_left, &mut rows_left);
+    }
+    let mut n: usize = 77;
+    let l = lending::record(seed, c);
+    let r = call(l, s, &book, &mut state, &mut rows, &mut tally, &mut n);
+    (r == answer)
+        & (n == count)
+        & same_tally(tally, tally_left)
+        & same_book(&book, &book_left)
+        & same_state(&state, &state_left)
+        & same_rows(&rows, &rows_left)
+}
+
 // One case: what is lent is drawn, the call is made, and what it leaves is compared.
-fn one(seed: u64, score: &mut [u32]) {
+fn one(seed: u64, score: &mut [u32; SCORES]) {
     let c = lending::drawn(seed);
     let m = lending::meant(seed, c);
     let h = c.held;
@@ -94,31 +129,10 @@ fn one(seed: u64, score: &mut [u32]) {
     let next = o.held;
     let s = lending::drawn_space(seed, leaving::rows(c, o));
     let answer = leaving::answer(c, m, o, s);
-    let count = if answer == 0 { leaving::rows(c, o) } else { 0 };
-    let mut book = [0u32; BOOK_WORDS];
-    lending::put_book(seed, c, &mut book);
-    let book_left = book;
-    let mut state = [0u32; STATE_WORDS];
-    lending::put_state(seed, c, &mut state);
-    let mut state_left = state;
-    let mut rows = [0u8; BUFFER];
-    lending::fill(seed, &mut rows);
-    let mut rows_left = rows;
-    let mut tally = lending::tally(seed);
-    let tally_left = leaving::tally(tally, answer, count);
-    if answer == 0 {
-        put_left(c, m, o, s, &mut state_left, &mut rows_left);
-    }
-    let mut n: usize = 77;
-    let r = call(seed, c, s, &book, &mut state, &mut rows, &mut tally, &mut n);
-    let good = (r == answer)
-        & (n == count)
-        & layout::same(&state, &state_left)
-        & check::same(&rows, &rows_left)
-        & same_tally(tally, tally_left)
-        & layout::same(&book, &book_left);
-    counted(score, r, 1);
-    counted(score, ROWS, n);
+    let count = leaving::listed(c, o, answer);
+    let good = agrees(seed, c, m, o, s, answer, count);
+    counted(score, answer, 1);
+    counted(score, ROWS, count);
     if answer == 0 && next.count < h.count {
         counted(score, FEWER, 1);
     }
@@ -132,17 +146,17 @@ fn line(n: u32, word: &[u8]) {
     io::write_all(1, word);
 }
 
-fn report(score: &[u32]) {
+fn report(score: &[u32; SCORES]) {
     line(CASES, b" cases\n");
-    line(cells::get(score, 0), b" answered 0\n");
-    line(cells::get(score, 9), b" answered 9\n");
-    line(cells::get(score, 10), b" answered 10\n");
-    line(cells::get(score, 11), b" answered 11\n");
-    line(cells::get(score, 12), b" answered 12\n");
-    line(cells::get(score, 13), b" answered 13\n");
-    line(cells::get(score, ROWS), b" rows\n");
-    line(cells::get(score, FEWER), b" states with fewer disjuncts\n");
-    line(cells::get(score, DIFFERENCES), b" differences\n");
+    line(score[0], b" answered 0\n");
+    line(score[9], b" answered 9\n");
+    line(score[10], b" answered 10\n");
+    line(score[11], b" answered 11\n");
+    line(score[12], b" answered 12\n");
+    line(score[13], b" answered 13\n");
+    line(score[ROWS], b" rows\n");
+    line(score[FEWER], b" states with fewer disjuncts\n");
+    line(score[DIFFERENCES], b" differences\n");
 }
 
 // Whether the words of the read book are those that are written here by hand.
@@ -160,7 +174,7 @@ fn as_read() -> bool {
         &mut begins,
         &mut ends,
     );
-    (answer == 0) & (place == 0) & (begins == 1) & (ends == 1) & layout::same(&book, &read)
+    (answer == 0) & (place == 0) & (begins == 1) & (ends == 1) & same_book(&book, &read)
 }
 
 fn main() {
