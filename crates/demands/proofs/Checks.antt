@@ -151,7 +151,7 @@ first-failing b s bytes buffer place t =
     })
 
 -- acceptance is 0, and nothing else is
-zero-accepted : (a : EventAnswer) → isAccepted a ≡ true → numberOf a ≡ 0
+pub zero-accepted : (a : EventAnswer) → isAccepted a ≡ true → numberOf a ≡ 0
 zero-accepted Answer.Accepted h = refl
 zero-accepted Answer.Unsound h = absurd (false≢true h)
 zero-accepted Answer.OutOfForm h = absurd (false≢true h)

@@ -51,7 +51,7 @@ module _ (b : Plain.Book) (s : Labels.State) (sound : soundState b s ≡ true) w
   unfolding soundHeld
   pieces = and-true-split _ _ (and-true-split _ (ascending compareHeld (s .held)) held-sound .0)
 
-  piece : (h : Held) → List·Memᴰ h (s .held) → (length (h .disjunct) ≡ b .variables) × (all soundEntry (h .disjunct) ≡ true)
+  pub piece : (h : Held) → List·Memᴰ h (s .held) → (length (h .disjunct) ≡ b .variables) × (all soundEntry (h .disjunct) ≡ true)
   unfolding soundPiece
   piece h m =
       let p = and-true-split (leb 1 (h .position) && leb (h .position) (length (b .occurrences))) _ (all-at (soundPiece b) (pieces .1) m) .1 in

@@ -1,8 +1,6 @@
 // The watch over lent memory, for programs in C and Rust too: book, state and tally are blocks of words that the caller keeps, and no call keeps
 // anything. Parameters are numbers, slices, and references to arrays and numbers: no struct, no enum and no bool crosses. No call has a
 // `requires`: any words, bytes, places and numbers are taken or refused.
-use book::Book;
-use state::State;
 use tally::Tally;
 ghost use mathlib.Core.Path.{_≡_};
 ghost use mathlib.Core.Bool.{true};
@@ -10,10 +8,9 @@ ghost use lib.ListN.{length};
 ghost use Rattle.form.specs.Text.{isBytes};
 ghost use Rattle.book.specs.Books.{namePlace};
 ghost use Rattle.calls.specs.Calls.{freshState};
-ghost use Rattle.blocks.specs.BookBlock.{bookSize};
-ghost use Rattle.blocks.specs.StateBlock.{stateSize, stateWords};
+ghost use Rattle.blocks.specs.StateBlock.{stateWords};
 ghost use Rattle.blocks.specs.TallyBlock.{tallySize, tallyIn, tallyWords};
-ghost use Rattle.blocks.specs.Lent.{ReadLeft, readLeft, EventLeft, eventLeft};
+ghost use Rattle.blocks.specs.Lent.{readLeft, eventLeft};
 
 // The words of a book, a state and a tally: a caller keeps so many for each.
 pub const BOOK_WORDS: usize = book_block::WORDS;
@@ -52,11 +49,8 @@ pub extern "C" fn watch_read(
     begins: &mut usize,
     ends: &mut usize,
 ) -> usize
-    ensures { λ r. ⌜ (r ≡ readLeft (now (text .entry)) .number)
-        × (now (book .exit) ≡ readLeft (now (text .entry)) .book)
-        × (now (place .exit) ≡ readLeft (now (text .entry)) .place)
-        × (now (begins .exit) ≡ readLeft (now (text .entry)) .begins)
-        × (now (ends .exit) ≡ readLeft (now (text .entry)) .ends)
+    ensures { λ r. ⌜ (readLeft (now (text .entry))
+        ≡ record { number = r; book = now (book .exit); place = now (place .exit); begins = now (begins .exit); ends = now (ends .exit) })
         × (isBytes (now (text .entry)) ≡ true) ⌝ }
 {
     let r = watch::read(text);
@@ -106,12 +100,8 @@ pub extern "C" fn watch_event(
     tally: &mut [u64; TALLY_WORDS],
     count: &mut usize,
 ) -> usize
-    ensures { λ r. ⌜ let left = eventLeft (now (book .entry)) (now (state .entry)) (now (bytes .entry)) (now (rows .entry)) place (now (tally .entry)) in
-        (r ≡ left .number)
-        × (now (count .exit) ≡ left .rows)
-        × (now (rows .exit) ≡ left .buffer)
-        × (now (tally .exit) ≡ left .tally)
-        × (now (state .exit) ≡ left .state)
+    ensures { λ r. ⌜ (eventLeft (now (book .entry)) (now (state .entry)) (now (bytes .entry)) (now (rows .entry)) place (now (tally .entry))
+        ≡ record { number = r; rows = now (count .exit); buffer = now (rows .exit); tally = now (tally .exit); state = now (state .exit) })
         × (isBytes (now (bytes .entry)) ≡ true) ⌝ }
 {
     let b = book_block::book_in(book);

@@ -20,14 +20,16 @@ ghost use Prim.Native.Nat.{_≤_};
 
 const CASES: u32 = 24000;
 
-// A score: how many got each answer, by its number; then rows, states that hold fewer disjuncts, and differences.
+// A score: how many got each answer, by its number; then rows, events with several, states that hold fewer disjuncts, and differences.
 const ROWS: usize = 14;
 
-const FEWER: usize = 15;
+const SEVERAL: usize = 15;
 
-const DIFFERENCES: usize = 16;
+const FEWER: usize = 16;
 
-const SCORES: usize = 17;
+const DIFFERENCES: usize = 17;
+
+const SCORES: usize = 18;
 
 // A number, or the largest that may be.
 fn at_most(x: usize, most: usize) -> usize
@@ -133,6 +135,9 @@ fn one(seed: u64, score: &mut [u32; SCORES]) {
     let good = agrees(seed, c, m, o, s, answer, count);
     counted(score, answer, 1);
     counted(score, ROWS, count);
+    if 1 < count {
+        counted(score, SEVERAL, 1);
+    }
     if answer == 0 && next.count < h.count {
         counted(score, FEWER, 1);
     }
@@ -155,6 +160,7 @@ fn report(score: &[u32; SCORES]) {
     line(score[12], b" answered 12\n");
     line(score[13], b" answered 13\n");
     line(score[ROWS], b" rows\n");
+    line(score[SEVERAL], b" events with several rows\n");
     line(score[FEWER], b" states with fewer disjuncts\n");
     line(score[DIFFERENCES], b" differences\n");
 }

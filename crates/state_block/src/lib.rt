@@ -150,8 +150,14 @@ fn put_slot(words: &mut [u32], s: Slot)
     let t = s.tidied();
     let n = t.size();
     let x = t.excluded;
-    words[0] = if t.bound { BOUND } else { n as u32 };
-    words[1] = if t.bound { t.value } else { x[0] };
+    let mut code = n as u32;
+    let mut first = x[0];
+    if t.bound {
+        code = BOUND;
+        first = t.value;
+    }
+    words[0] = code;
+    words[1] = first;
     words[2] = x[1];
     words[3] = x[2];
     words[4] = x[3];

@@ -1,0 +1,60 @@
+-- For any words, reached by a run or not: the number that a lent event call hands back is that of the first check that fails, a refusal leaves all but the
+-- refused counter, and a block of another layout is unsound, as are a count over 128, a code above 7 and a tag out of range.
+use mathlib.Core.Path.{_≡_, refl, sym, ap, _∙_}
+use mathlib.Core.Bool.{false, cond, _&&_, and-false}
+use mathlib.Core.List.{List}
+use Prim.Native.Nat.{ℕ, suc, _+_, _*_, _≤_, _<_}
+use native.Mathlib.Omega.{arith}
+use borrow.Author.Tests.{ne-eqb, lt-leb}
+use lib.Dec.{eqb, leb}
+use lib.ListN.{length, getD}
+use Rattle.meaning.specs.Book.{soundBook}
+use Rattle.meaning.specs.Sound.{soundState}
+use Rattle.form.specs.Text.{Bytes}
+use Rattle.book.specs.declared.Book.{Book}
+use Rattle.book.specs.Books.{emptyBook, viewBook}
+use Rattle.state.specs.declared.State.{State}
+use Rattle.state.specs.States.{stateOf, viewState}
+use Rattle.sound.specs.Soundness.{bookCounts, bookSound, stateCounts, stateSound}
+use Rattle.tally.specs.Tallies.{tallied}
+use Rattle.calls.specs.Answers.{numberOf}
+use Rattle.calls.specs.Calls.{isAccepted, taken}
+use Rattle.calls.specs.Checks.{FirstFailing, unsoundBook, unsoundState}
+use Rattle.demands.proofs.Checks.{first-failing, refused-number, refused-stays}
+use Rattle.blocks.specs.BookBlock.{bookIn}
+use Rattle.blocks.specs.StateBlock.{stateIn, unknownState, stateStored}
+use Rattle.blocks.specs.TallyBlock.{tallyIn, tallyWords}
+use Rattle.blocks.specs.Lent.{eventLeft}
+
+-- neither the empty book nor a state above the limit of events is sound
+empty-unsound : bookSound emptyBook ≡ false
+unfolding bookSound bookCounts emptyBook soundBook viewBook
+empty-unsound = refl
+
+unknown-unsound : (b : Book) → stateSound b unknownState ≡ false
+unfolding stateSound soundState viewState stateOf
+unknown-unsound b = and-false (stateCounts (b .variables) unknownState)
+
+module _ (w s : List ℕ) (bytes buffer : Bytes) (place : ℕ) (t : List ℕ) where
+  -- "Events: 9 to 13 in that order"
+  pub lent-first-failing : FirstFailing (bookIn w) (stateIn s) bytes buffer place (eventLeft w s bytes buffer place t .number)
+  unfolding eventLeft
+  lent-first-failing = first-failing (bookIn w) (stateIn s) bytes buffer place (tallyIn t)
+
+  -- "all unchanged", but one refused event more
+  pub lent-refused-stays : (eventLeft w s bytes buffer place t .number ≡ 0 → ⊥) → let l = eventLeft w s bytes buffer place t in
+      (l .rows ≡ 0) × (l .buffer ≡ buffer) × (l .state ≡ s) × (l .tally ≡ tallyWords (tallied (tallyIn t) 0 1 0))
+  unfolding eventLeft
+  lent-refused-stays h =
+      let r = taken (bookIn w) (stateIn s) bytes buffer place (tallyIn t) in
+      let (_, _, rows, tally, left) = refused-stays (bookIn w) (stateIn s) bytes buffer place (tallyIn t) h in
+      (rows, left, ap (λ z. cond z (stateStored s (r .state)) s) (refused-number (r .answer) h), ap tallyWords tally)
+
+  -- a book's block of another layout holds the empty book, a state's block of another layout a state above the limit of events
+  pub other-book : (getD w 0 0 ≡ 1001 → ⊥) → eventLeft w s bytes buffer place t .number ≡ 9
+  unfolding bookIn
+  other-book h = lent-first-failing .nine .1 (unsoundBook (rw (ne-eqb (getD w 0 0) 1001 h) empty-unsound))
+
+  pub other-state : (getD s 0 0 ≡ 2001 → ⊥) → eventLeft w s bytes buffer place t .number ≡ 9
+  unfolding stateIn
+  other-state h = lent-first-failing .nine .1 (unsoundState (rw (ne-eqb (getD s 0 0) 2001 h) (unknown-unsound (bookIn w))))

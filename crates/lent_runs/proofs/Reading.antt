@@ -1,0 +1,86 @@
+-- The words that `watch_read` leaves of an accepted text are read back as the book that was read; those of a refused text are zeros. For the demands.
+use mathlib.Core.Path.{_≡_, refl, sym, ap, subst, _∙_}
+use mathlib.Core.Bool.{true, and-eq-true-iff}
+use mathlib.Core.List.{List, map, List·Memᴰ}
+use Prim.Native.Nat.{ℕ, _+_, _≤_}
+use native.Mathlib.Omega.{arith}
+use borrow.Author.Tests.{leb-true, eq-eqb, ne-eqb}
+use lib.Dec.{leb}
+use lib.ListN.{length, replicate, length-map, length-append, length-replicate}
+use Rattle.laws.specs.Lists.{numbers}
+use Rattle.laws.specs.Parts.{pad}
+use Rattle.laws.proofs.Lists.{all-at, mem-map, length-numbers}
+use Rattle.laws.proofs.Parts.{pad-length}
+use Rattle.pattern.specs.Regex.{Regex}
+use Rattle.pattern.specs.Positions as Positions
+use Rattle.pattern.proofs.Masks.{symbols-length}
+use Rattle.meaning.specs.Book.{soundSymbol}
+use Rattle.form.specs.Text.{Bytes, SymbolLine, Declarations, symbolOf, spans}
+use Rattle.form.specs.Lines.{bytesAt}
+use Rattle.form.specs.Form.{Form, allNames}
+use Rattle.parsing.proofs.Accepted as Accepted
+use Rattle.table.specs.declared.Symbol.{Symbol}
+use Rattle.table.specs.Tables.{nameOf, noName}
+use Rattle.book.specs.Answers.{numberOf}
+use Rattle.book.specs.Books.{reading}
+use Rattle.book.proofs.Bench as Bench
+use Rattle.blocks.specs.BookBlock.{bookIn}
+use Rattle.blocks.specs.Lent.{readLeft}
+use Rattle.blocks.proofs.Books.{Sized, book-back, book-length}
+use Rattle.blocks.proofs.States.{mem-pad}
+
+-- an argument place for each of four in a symbol as the book holds it
+lined-four : (l : SymbolLine) → length (l .parameters) ≤ 4 → length (Bench.lined l .parameters) ≡ 4
+lined-four l h = pad-length 4 _ (map Bench.coded (l .parameters)) (omega (arith, length-map (l .parameters) Bench.coded))
+
+module _ (text : Bytes) (d : Declarations) (r : Regex) (f : Form text d r) where
+  spans-few : length (spans d) ≤ 20
+  spans-few =
+      omega (
+        arith,
+        sym (length-map (spans d) (bytesAt text)),
+        ap length (Accepted.names-placed text d r (f .shape)),
+        length-append (d .variables) (map (λ l. l .name) (d .symbols)),
+        length-map (d .symbols) (λ l. l .name),
+        f .shape .fewVariables,
+        f .shape .fewSymbols,
+      )
+
+  few-parameters : (l : SymbolLine) → List·Memᴰ l (d .symbols) → length (l .parameters) ≤ 4
+  unfolding soundSymbol
+  few-parameters l m =
+      let h = all-at (λ l. soundSymbol (length (d .variables)) (symbolOf l)) (f .shape .symbols) m in
+      let few : leb (length (l .parameters)) 4 ≡ true = simp and-eq-true-iff at h .0 .1 in
+      leb-true (length (l .parameters)) 4 few
+
+  pub read-sized : Sized (reading text .book)
+  read-sized =
+      let (_, _, table, _, occurrences, _, _, follows, _) = Bench.held text d r f in
+      let positions : Positions.size r ≤ 31 = Accepted.form-proper text d r f .occurrences in
+      record {
+        names = ap length (Bench.book-names text d r f) ∙ pad-length 20 noName (map nameOf (spans d)) (omega (arith, length-map (spans d) nameOf, spans-few));
+        table = ap length table ∙ pad-length 16 _ (map Bench.lined (d .symbols)) (omega (arith, length-map (d .symbols) Bench.lined, f .shape .fewSymbols));
+        parameters = λ y m.
+            mem-pad (λ y. length (y .parameters) ≡ 4) 16 _ (map Bench.lined (d .symbols))
+            (λ x k. let (l, j, e) = mem-map Bench.lined x (d .symbols) .0 k in ap (λ z. length (z .parameters)) e ∙ lined-four l (few-parameters l j)) refl y
+            (subst (List·Memᴰ y) table m);
+        occurrences = ap length occurrences ∙ pad-length 31 0 (Positions.symbols r) (omega (arith, symbols-length r, positions));
+        follows = ap length follows
+            ∙ pad-length 31 0 _
+            (omega (arith, length-map (numbers 1 (Positions.size r)) (Positions.following r 1), length-numbers 1 (Positions.size r), positions));
+      }
+
+-- an accepted text
+pub read-back : (text : Bytes) → readLeft text .number ≡ 0 → bookIn (readLeft text .book) ≡ reading text .book
+unfolding readLeft
+read-back text h =
+    let (d, r, f) = Bench.accepted text .0 h in
+    rw (eq-eqb (numberOf (reading text .answer)) 0 h) (book-back (reading text .book) (read-sized text d r f))
+
+-- a refused one
+pub refused-zeros : (text : Bytes) → (readLeft text .number ≡ 0 → ⊥)
+    → (readLeft text .book ≡ replicate 269 0) × (readLeft text .begins ≡ 0) × (readLeft text .ends ≡ 0)
+unfolding readLeft
+refused-zeros text h =
+    let (_, b, e) = Bench.refusal-book text h in
+    rw (ne-eqb (numberOf (reading text .answer)) 0 h) (refl, b, e)

@@ -1,0 +1,2 @@
+-- Lists of lent event calls, and what is promised of them.
+pub mod Lending
