@@ -1,6 +1,6 @@
 // Damaged words of books and states, records, places, buffers and tallies, from a generator with a fixed start, are lent to the event call, and every
 // word and byte that it leaves is compared with what document 01 and the description of the blocks say. Prints how many cases there were, how they
-// were answered, the rows, how many states came to hold fewer disjuncts, and the differences.
+// were answered, the rows, how many events had several, how many states came to hold fewer disjuncts, and the differences.
 use block_cases::layout;
 use block_cases::layout::BOOK_WORDS;
 use block_cases::layout::STATE_WORDS;
@@ -18,7 +18,7 @@ use oracle::moves::Move;
 use oracle::moves::Outcome;
 ghost use Prim.Native.Nat.{_≤_};
 
-const CASES: u32 = 24000;
+const CASES: u32 = 40000;
 
 // A score: how many got each answer, by its number; then rows, events with several, states that hold fewer disjuncts, and differences.
 const ROWS: usize = 14;

@@ -5,10 +5,10 @@ use Rattle.lent_damage.proofs.main.Statement.{statement}
 use Rattle.lent_damage.proofs.main.Tie as tie
 
 abbrev Inv-loop : tie.InvT-loop
-Inv-loop score₀ seed₀ i₀ score seed i = i ≤ 24000
+Inv-loop score₀ seed₀ i₀ score seed i = i ≤ 40000
 
 abbrev μ-loop : tie.MeasureT-loop
-μ-loop score₀ seed₀ i₀ score seed i = 24000 - i
+μ-loop score₀ seed₀ i₀ score seed i = 40000 - i
 
 as-read-requires : tie.Need-as-read-requires Inv-loop μ-loop
 as-read-requires c κs = search needs
