@@ -1,4 +1,5 @@
-// The blocks of words as they are described: where each part of a book and of a state begins, and how long it is. Words are filled and cleared here.
+// The blocks of words as they are described: where each part of a book and of a state begins, and how long it is. For `books` and `states`, and for the
+// comparison of whole blocks.
 use corrupted::amounts;
 ghost use Prim.Native.Nat.{_≤_};
 

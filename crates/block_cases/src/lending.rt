@@ -1,6 +1,7 @@
 // What is lent to the event call in one case, drawn from the seed of the case: which kinds of damage there are, the book, the state, the record, the
 // tally, and the buffer with the place from which rows go into it.
 use crate::books;
+use crate::layout;
 use crate::states;
 use corrupted::amounts;
 use corrupted::records;
@@ -14,7 +15,8 @@ use oracle::moves::Move;
 // Room for 128 rows, and for what must stay around them.
 pub const BUFFER: usize = 3200;
 
-const ROW: usize = 24;
+// "Row, 24 bytes"
+pub const ROW: usize = 24;
 
 // The kinds of damage of one case, 0 for none.
 pub struct Kinds {
@@ -120,7 +122,7 @@ fn spare(seed: u64, k: u64) -> u64 {
 
 pub fn put_book(seed: u64, c: Case, words: &mut [u32]) {
     let k = c.kinds;
-    crate::layout::fill(words, spare(seed, 75));
+    layout::fill(words, spare(seed, 75));
     books::put_book(words);
     books::damage(words, k.book, much(seed), draws::below(seed, 78, 1000000));
 }
@@ -129,7 +131,7 @@ pub fn put_state(seed: u64, c: Case, words: &mut [u32]) {
     let h = c.held;
     let k = c.kinds;
     let x = amounts::amount(seed, 83);
-    crate::layout::fill(words, spare(seed, 80));
+    layout::fill(words, spare(seed, 80));
     states::put_state(words, c.number, h);
     states::damage(words, h, k.state, x, draws::below(seed, 85, 1000000));
 }

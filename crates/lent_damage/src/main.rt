@@ -1,6 +1,7 @@
 // Damaged words of books and states, records, places, buffers and tallies, from a generator with a fixed start, are lent to the event call, and every
 // word and byte that it leaves is compared with what document 01 and the description of the blocks say. Prints how many cases there were, how they
 // were answered, the rows, how many events had several, how many states came to hold fewer disjuncts, and the differences.
+use block_cases::books;
 use block_cases::layout;
 use block_cases::layout::BOOK_WORDS;
 use block_cases::layout::STATE_WORDS;
@@ -172,7 +173,7 @@ fn as_read() -> bool {
     let mut place: usize = 1;
     let mut begins: usize = 0;
     let mut ends: usize = 0;
-    block_cases::books::put_book(&mut book);
+    books::put_book(&mut book);
     let answer = lent::watch_read(
         b"vars d s\nsym open 5 d\nsym fill 1 d s\nsym close 6 d\nsym reset 8 _\nmatch open fill close\n",
         &mut read,

@@ -1,6 +1,6 @@
-// Held disjuncts drawn at random: few, many, or all 128, most of them at positions 1 and 2, some at position 3, where no run leaves any.
+// Held disjuncts drawn at random, for the states of `block_cases`: few, many, or all 128, most of them at positions 1 and 2, some at position 3,
+// where no run leaves any.
 use crate::entries;
-use crate::entries::EXCLUSIONS;
 use crate::entries::Entry;
 use crate::entries::Held;
 use crate::entries::PLACES;

@@ -1,4 +1,5 @@
-// Events of the book drawn at random: most of them concern an entry that is held.
+// Events of the book drawn at random, for `block_cases`, and which symbol matches each. Most of them concern an entry that is held; some no symbol
+// matches.
 use crate::drawn;
 use crate::entries;
 use crate::entries::EXCLUSIONS;

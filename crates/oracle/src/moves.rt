@@ -1,5 +1,7 @@
-// What document 01 says of an event for the disjuncts that are held: its rows, whether there is room, and what is held afterwards.
+// What document 01 says of an event for the disjuncts that are held: its rows, whether there is room, and what is held afterwards. For `block_cases`,
+// which says what a call leaves, and for `lent_damage`.
 use crate::entries;
+use crate::entries::EXCLUSIONS;
 use crate::entries::Entry;
 use crate::entries::Held;
 use crate::entries::PLACES;
@@ -115,7 +117,7 @@ fn joined(o: Outcome, m: Move) -> Outcome {
     let h = o.held;
     let mut r = o;
     if m.symbol == events::OPEN {
-        let e = entries::free(1, m.a, 0, [0u32; 6]);
+        let e = entries::free(1, m.a, 0, [0u32; EXCLUSIONS]);
         r.held = entries::inserted(h, e);
     }
     if m.symbol == events::FILL && o.meets {
