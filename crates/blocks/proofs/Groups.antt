@@ -4,16 +4,12 @@ use mathlib.Core.Path.{_≡_, refl, sym, ap, ap₂, _∙_}
 use mathlib.Core.List.{List, [], _∷_, _++_, map, map-map, append-assoc, List·Memᴰ, List·Memᴰ·head, List·Memᴰ·tail}
 use Prim.Native.Nat.{ℕ, zero, suc, _+_, _-_, _*_, _≤_, _<_}
 use native.Mathlib.Omega.{arith}
-use lib.ListN.{length, take, drop, getD, set, length-drop}
+use lib.ListN.{length, take, drop, getD, set, length-map, List·getD-map}
 use lib.Seq.{take-all, take-at, drop-at, drop-drop}
 use Rattle.laws.specs.Lists.{gather}
 use Rattle.laws.proofs.Fills.{fill-more}
 use Rattle.laws.proofs.Maps.{map-agree}
 use Rattle.blocks.specs.Groups.{groups}
-
--- a part that is lent to the end has all that is behind its beginning
-pub lent-rest : (p : ℕ) (w : List ℕ) → take (length w - p) (drop p w) ≡ drop p w
-lent-rest p w = take-all (length w - p) (drop p w) (omega (arith, length-drop p w))
 
 pub groups-length : (k n : ℕ) (w : List ℕ) → length (groups k n w) ≡ n
 groups-length k zero w = refl
@@ -25,6 +21,14 @@ groups-at k (suc n) w zero h = let e : k * 0 ≡ 0 = omega arith in rw e
 groups-at k (suc n) w (suc i) h =
     let e : k + k * i ≡ k * suc i = omega arith in
     groups-at k n (drop k w) i (omega arith) ∙ ap (take k) (drop-drop (k * i) k w ∙ ap (λ j. drop j w) e)
+
+-- what is made of each group
+module _ {A : Type 0} (f : List ℕ → A) (k n : ℕ) (w : List ℕ) where
+  pub made-length : length (map f (groups k n w)) ≡ n
+  made-length = length-map (groups k n w) f ∙ groups-length k n w
+
+  pub made-at : (i : ℕ) → i < n → getD (map f (groups k n w)) i (f []) ≡ f (take k (drop (k * i) w))
+  made-at i h = List·getD-map f (groups k n w) i [] ∙ ap f (groups-at k n w i h)
 
 module _ {A : Type 0} (f : List ℕ → A) (k n : ℕ) (w : List ℕ) (i : ℕ) (r : List A) where
   -- the i-th group, lent from its beginning to its end, and what is read there put into its place

@@ -1,24 +1,22 @@
 -- A state as the code holds it, written into words or stored in a block, is read back from it, whatever stands behind what is held. For the lent calls.
 use mathlib.Core.Path.{_≡_, refl, sym, ap, ap₂, subst, _∙_}
-use mathlib.Core.Bool.{Bool, true, false, cond, _&&_}
-use mathlib.Core.List.{List, [], _∷_, _++_, map, map-map, append-assoc, append-nil, List·Memᴰ, List·Memᴰ·head, List·Memᴰ·tail, List·Memᴰ·append-cases}
-use mathlib.Core.Logic.{⊎-elim}
-use Prim.Native.Nat.{ℕ, suc, _+_, _-_, _*_, _≤_, _<_, max}
+use mathlib.Core.Bool.{true, false}
+use mathlib.Core.List.{List, [], _++_, map, map-map, append-assoc, append-nil, List·Memᴰ}
+use Prim.Native.Nat.{ℕ, suc, _+_, _-_, _*_, _≤_, max}
 use native.Mathlib.Omega.{arith}
 use borrow.Author.Tests.{leb-true, ne-eqb}
-use lib.Dec.{eqb, leb}
-use lib.ListN.{length, take, drop, getD, replicate, length-map, length-append, length-take, length-drop, length-replicate, take-append-drop}
-use lib.Seq.{ext-getD, take-all, take-at, drop-at, take-take, take-append-le, drop-append-le, getD-drop, getD-take, drop-drop, length-take-le}
-use Rattle.laws.specs.Lists.{all, gather}
+use lib.Dec.{leb}
+use lib.ListN.{length, take, drop, getD, length-map, length-append, length-take, length-drop, take-append-drop}
+use lib.Seq.{take-all, take-at, drop-at, take-take, take-append-le, drop-drop, length-take-le}
+use Rattle.laws.specs.Lists.{gather}
 use Rattle.laws.specs.Parts.{front, splice, pad}
-use Rattle.laws.proofs.Lists.{all-append, all-at, mem-map, mem-take}
-use Rattle.laws.proofs.Maps.{map-agree, take-map, all-replicate}
-use Rattle.laws.proofs.Parts.{pad-length, pad-take, pad-full, pad-beyond, map-pad, splice-before, splice-within, splice-length}
-use Rattle.laws.proofs.Fronts.{gather-length, gather-append}
+use Rattle.laws.proofs.Lists.{all-at, mem-map, mem-take}
+use Rattle.laws.proofs.Maps.{map-agree, take-map}
+use Rattle.laws.proofs.Parts.{pad-length, pad-take, map-pad, all-pad, mem-pad, pads-agree}
+use Rattle.laws.proofs.Fronts.{front-length, front-first, splice-seam, gather-length, gather-append}
 use Rattle.meaning.specs.Labels as Labels
 use Rattle.meaning.specs.Labels.{Entry, bound, free, exclusions, Held}
 use Rattle.meaning.specs.Room.{fewExclusions}
-use Rattle.slot.specs.declared.Slot.{Slot}
 use Rattle.slot.specs.Slots.{slotOf}
 use Rattle.disjunct.specs.declared.Disjunct.{Disjunct}
 use Rattle.disjunct.specs.Disjuncts.{viewDisjunct, disjunctOf}
@@ -30,7 +28,7 @@ use Rattle.blocks.specs.StateBlock.{slotIn, disjunctIn, stateHeld, state
 use Rattle.blocks.proofs.Groups.{groups-gather, gathered-back, groups-take}
 
 -- An entry in seven words.
-entry-length : (x : Entry) → length (exclusions x) ≤ 6 → length (entryWords x) ≡ 7
+pub entry-length : (x : Entry) → length (exclusions x) ≤ 6 → length (entryWords x) ≡ 7
 entry-length (bound a) h = refl
 entry-length (free xs) h = ap suc (pad-length 6 0 xs h)
 
@@ -46,18 +44,13 @@ pub record Grouped (d : Disjunct) : Type 0 where
   pub size : length (groupWords d) ≡ 28
   pub back : disjunctIn (groupWords d) ≡ d
 
--- what is so of each element is so in the padding
-all-pad : {A : Type 0} (f : A → Bool) (n : ℕ) (d : A) (l : List A) → all f l ≡ true → f d ≡ true → all f (pad n d l) ≡ true
-unfolding pad
-all-pad f n d l h k = all-append f l (replicate (n - length l) d) ∙ ap₂ _&&_ h (all-replicate f (n - length l) d k)
-
 pub grouped : (D : Labels.Disjunct) → length D ≤ 4 → fewExclusions D ≡ true → Grouped (disjunctOf D)
 unfolding groupWords disjunctIn disjunctOf
 grouped D four few =
     let E = pad 4 (free []) D in
     let long : length E ≡ 4 = pad-length 4 (free []) D four in
     let six : (x : Entry) → List·Memᴰ x E → length (exclusions x) ≤ 6 =
-    λ x m. leb-true (length (exclusions x)) 6 (all-at _ (all-pad (λ x. leb (length (exclusions x)) 6) 4 (free []) D few refl) m) in
+    λ x m. leb-true (length (exclusions x)) 6 (all-at _ (all-pad (λ x. leb (length (exclusions x)) 6) 4 (free []) D refl few) m) in
     let size : (x : Entry) → List·Memᴰ x E → length (entryWords x) ≡ 7 = λ x m. entry-length x (six x m) in
     let view : viewDisjunct (disjunctOf D) ≡ E = view-disjunct D in
     record {
@@ -102,41 +95,6 @@ canonical-of s few each =
           subst Grouped (sym e) (grouped (h .disjunct) four six);
     }
 
--- an element of a padded list is one of the list, or the padding
-pub mem-pad : {A : Type 0} (P : A → Type 0) (n : ℕ) (d : A) (l : List A) → ((x : A) → List·Memᴰ x l → P x) → P d → (x : A) → List·Memᴰ x (pad n d l) → P x
-unfolding pad
-mem-pad {A = A} P n d l h k x m =
-    ⊎-elim (h x) (λ r. subst P (sym (copies (n - length l) r)) k) (List·Memᴰ·append-cases l m)
-  where
-    copies : {x : A} (n : ℕ) → List·Memᴰ x (replicate n d) → x ≡ d
-    copies (suc n) (List·Memᴰ·head e) = e
-    copies (suc n) (List·Memᴰ·tail r) = copies n r
-
--- Two padded lists agree behind what they are padded of.
-pads-agree : {A : Type 0} (n : ℕ) (d : A) (a b : List A) (m : ℕ) → length a ≤ m → length b ≤ m → m ≤ n → drop m (pad n d a) ≡ drop m (pad n d b)
-pads-agree n d a b m h k u =
-    let p = pad n d a in
-    let q = pad n d b in
-    let lp : length p ≡ n = pad-length n d a (omega arith) in
-    let lq : length q ≡ n = pad-length n d b (omega arith) in
-    ext-getD d (drop m p) (drop m q) (omega (arith, length-drop m p, length-drop m q))
-    λ i g. getD-drop m p i d ∙ pad-beyond n d a (m + i) d (omega arith) (omega (arith, length-drop m p))
-    ∙ sym (getD-drop m q i d ∙ pad-beyond n d b (m + i) d (omega arith) (omega (arith, length-drop m p)))
-
--- A part written over right behind another, and over the beginning of the first of two.
-module _ {A : Type 0} where
-  splice-seam : (p : ℕ) (b a r : List A) → length a ≡ p → splice p b (a ++ r) ≡ a ++ front b r
-  unfolding splice
-  splice-seam p b a r h = ap₂ (λ x y. x ++ front b y) (take-at a r p h) (drop-at a r p h)
-
-  front-first : (b x y : List A) → length b ≤ length x → front b (x ++ y) ≡ front b x ++ y
-  unfolding front
-  front-first b x y h = ap (λ r. b ++ r) (drop-append-le (length b) x y h) ∙ sym (append-assoc b (drop (length b) x) y)
-
-  front-length : (b l : List A) → length b ≤ length l → length (front b l) ≡ length l
-  unfolding front
-  front-length b l h = omega (arith, length-append b (drop (length b) l), length-drop (length b) l)
-
 -- A block of 3,715 words written over in its three parts.
 module _ (w : List ℕ) (long : length w ≡ 3715) (head first second : List ℕ) (three : length head ≡ 3) (few : length first ≤ 128) where
   headed : splice 0 head w ≡ head ++ drop 3 w
@@ -159,13 +117,13 @@ module _ (w : List ℕ) (long : length w ≡ 3715) (head first second : List ℕ
 
 -- How long a state's arrays, its groups and its words are.
 module _ (s : State) (c : Canonical s) where
-  pool-long : length (s .pool) ≡ 128
+  pub pool-long : length (s .pool) ≡ 128
   pool-long = ap length (c .pool-padded) ∙ pad-length 128 (disjunctOf []) (c .pool) (omega (arith, c .pool-held, c .few))
 
   pub each-place : (d : Disjunct) → List·Memᴰ d (s .pool) → Grouped d
-  each-place d m = mem-pad Grouped 128 (disjunctOf []) (c .pool) (c .each) free-grouped d (subst (List·Memᴰ d) (c .pool-padded) m)
+  each-place d m = mem-pad Grouped 128 (disjunctOf []) (c .pool) free-grouped (c .each) d (subst (List·Memᴰ d) (c .pool-padded) m)
 
-  positions-long : length (s .positions) ≡ 128
+  pub positions-long : length (s .positions) ≡ 128
   positions-long = ap length (c .positions-padded) ∙ pad-length 128 0 (c .positions) (omega (arith, c .positions-held, c .few))
 
   groups-long : length (gather groupWords (s .pool)) ≡ 3584
@@ -186,7 +144,7 @@ module _ (w : List ℕ) (long : length w ≡ 3715) (s : State) (c : Canonical s)
   abbrev G : List ℕ
   G = gather groupWords (take m (s .pool))
 
-  stored-parts : stateStored w s ≡ stateHead s ++ (front P (take 128 (drop 3 w)) ++ front G (drop 131 w))
+  pub stored-parts : stateStored w s ≡ stateHead s ++ (front P (take 128 (drop 3 w)) ++ front G (drop 131 w))
   unfolding stateStored
   stored-parts = parts-written w long (stateHead s) P G refl (omega (arith, length-take m (s .positions), positions-long s c))
 

@@ -2,17 +2,15 @@
 -- the lent call that reads a text into words.
 use mathlib.Core.Path.{_≡_, refl, sym, ap, ap₂, _∙_}
 use mathlib.Core.Bool.{Bool, true, false, _&&_, and-eq-true-iff}
-use mathlib.Core.List.{List, map}
-use Prim.Native.Nat.{ℕ, _+_, _-_}
+use mathlib.Core.List.{map}
+use Prim.Native.Nat.{_+_, _-_}
 use native.Mathlib.Omega.{arith}
 use borrow.Author.Tests.{leb-true, lt-ltb, eqb-true, eqb-false}
 use lib.Dec.{eqb}
-use lib.ListN.{length, take, replicate, length-map, length-append}
+use lib.ListN.{length, take, length-map, length-append}
 use Rattle.laws.specs.Lists.{all}
-use Rattle.laws.specs.Parts.{pad}
-use Rattle.laws.proofs.Lists.{all-append, all-map, all-at, all-of}
-use Rattle.laws.proofs.Maps.{all-replicate}
-use Rattle.laws.proofs.Parts.{pad-take}
+use Rattle.laws.proofs.Lists.{all-map, all-at, all-of}
+use Rattle.laws.proofs.Parts.{pad-take, all-pad}
 use Rattle.pattern.specs.Regex.{Regex}
 use Rattle.meaning.specs.Book.{soundSymbol}
 use Rattle.form.specs.Text.{Bytes, Declarations, SymbolLine, spans}
@@ -24,10 +22,6 @@ use Rattle.book.specs.Answers.{numberOf}
 use Rattle.book.specs.Books.{reading}
 use Rattle.book.proofs.Bench.{accepted, held, names-held, names-inside, empty-book, lined}
 use Rattle.book_block.specs.Fits.{nameFits, symbolFits, bookFits}
-
-all-pad : {A : Type 0} (f : A → Bool) (n : ℕ) (d : A) (l : List A) → f d ≡ true → all f l ≡ true → all f (pad n d l) ≡ true
-unfolding pad
-all-pad f n d l h k = all-append f l (replicate (n - length l) d) ∙ ap₂ _&&_ k (all-replicate f (n - length l) d h)
 
 module _ (s : Bytes) (d : Declarations) (r : Regex) (f : Form s d r) where
   -- as many names as declarations

@@ -9,13 +9,12 @@ use lib.Dec.{eqb}
 use lib.ListN.{length, take, drop, getD, length-append}
 use Rattle.laws.specs.Lists.{gather}
 use Rattle.laws.specs.Parts.{front, splice}
-use Rattle.laws.proofs.Fronts.{front-whole, front-append, lent-front, gather-length}
+use Rattle.laws.proofs.Fronts.{front-whole, front-append, lent-front, lent-rest, gather-length}
 use Rattle.table.specs.declared.Symbol.{Symbol}
 use Rattle.table.specs.declared.Name.{Name}
 use Rattle.book.specs.declared.Book.{Book}
 use Rattle.blocks.specs.Groups.{groups}
 use Rattle.blocks.specs.BookBlock.{nameIn, symbolIn, bookHeld, nameWords, symbolWords, bookHead, bookWords}
-use Rattle.blocks.proofs.Groups.{lent-rest}
 
 -- the parts that are lent to the end of the block
 module _ (w : List ℕ) where

@@ -7,8 +7,8 @@ use native.Mathlib.Nat.{zero-add, mul-comm}
 use native.Mathlib.Numerals.{add-one}
 use native.Mathlib.Omega.{arith}
 use borrow.Rule.Slice.PartMut.{midOf, putMid}
-use lib.ListN.{length, take, drop, getD, set, length-append, length-drop}
-use lib.Seq.{take-all, take-suc, length-take-le, drop-length, paste-suc}
+use lib.ListN.{length, take, drop, getD, set, length-append, length-drop, List·getD-append}
+use lib.Seq.{sets, sets-eq, take-all, take-suc, take-at, drop-at, length-take-le, drop-length, drop-append-le, getD-append-add, getD-drop, paste-suc}
 use Rattle.laws.specs.Lists.{gather}
 use Rattle.laws.specs.Parts.{front, splice}
 use Rattle.laws.proofs.Lists.{mem-getD, mem-take}
@@ -35,6 +35,40 @@ module _ {A : Type 0} where
   pub front-whole : (b l : List A) → length b ≡ length l → front b l ≡ b
   unfolding front
   front-whole b l h = ap (λ n. b ++ drop n l) h ∙ ap (λ r. b ++ r) (drop-length l) ∙ append-nil b
+
+  pub front-length : (b l : List A) → length b ≤ length l → length (front b l) ≡ length l
+  unfolding front
+  front-length b l h = omega (arith, length-append b (drop (length b) l), length-drop (length b) l)
+
+  -- an element of what is written, and one behind it
+  pub front-within : (b l : List A) (i : ℕ) (d : A) → i < length b → getD (front b l) i d ≡ getD b i d
+  unfolding front
+  front-within b l i d h = List·getD-append b (drop (length b) l) d i h
+
+  pub front-behind : (b l : List A) (i : ℕ) (d : A) → length b ≤ i → getD (front b l) i d ≡ getD l i d
+  unfolding front
+  front-behind b l i d h =
+      let j = i - length b in
+      let e : i ≡ length b + j = omega arith in
+      ap (λ n. getD (b ++ drop (length b) l) n d) e ∙ getD-append-add b (drop (length b) l) j d ∙ getD-drop (length b) l j d ∙ ap (λ n. getD l n d) (sym e)
+
+  -- over the beginning of the first of two lists, and behind it
+  pub front-first : (b x y : List A) → length b ≤ length x → front b (x ++ y) ≡ front b x ++ y
+  unfolding front
+  front-first b x y h = ap (λ r. b ++ r) (drop-append-le (length b) x y h) ∙ sym (append-assoc b (drop (length b) x) y)
+
+  pub splice-seam : (p : ℕ) (b a r : List A) → length a ≡ p → splice p b (a ++ r) ≡ a ++ front b r
+  unfolding splice
+  splice-seam p b a r h = ap₂ (λ x y. x ++ front b y) (take-at a r p h) (drop-at a r p h)
+
+  -- stores from the first element on
+  pub sets-front : (b l : List A) → length b ≤ length l → sets l 0 b ≡ front b l
+  unfolding front
+  sets-front b l h = sets-eq b l 0 (omega arith) ∙ ap (λ n. b ++ drop n l) (zero-add (length b))
+
+  -- the part from p on, lent to be read
+  pub lent-rest : (p : ℕ) (l : List A) → take (length l - p) (drop p l) ≡ drop p l
+  lent-rest p l = take-all (length l - p) (drop p l) (omega (arith, length-drop p l))
 
   -- a part right behind another
   pub front-append : (a b l : List A) (n : ℕ) → length a ≡ n → n + length b ≤ length l → splice n b (front a l) ≡ front (a ++ b) l

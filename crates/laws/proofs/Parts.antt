@@ -1,15 +1,20 @@
 -- Laws of splices and of padding.
-use mathlib.Core.Path.{_≡_, refl, sym, ap, ap₂, _∙_}
+use mathlib.Core.Path.{_≡_, refl, sym, ap, ap₂, subst, _∙_}
+use mathlib.Core.Bool.{Bool, true, _&&_}
 use mathlib.Core.List.{List, [], _∷_, _++_, map, map-append, append-assoc, append-nil}
+use mathlib.Core.List.{List·Memᴰ, List·Memᴰ·head, List·Memᴰ·tail, List·Memᴰ·append-cases}
+use mathlib.Core.Logic.{⊎-elim}
 use Prim.Native.Nat.{ℕ, suc, _+_, _-_, _≤_, _<_}
 use native.Mathlib.Omega.{arith}
 use native.Mathlib.Nat.{add-assoc}
 use native.Mathlib.Numerals.{add-one}
-use lib.ListN.{length, take, getD, set, replicate, length-map, length-append, length-take, length-drop, length-replicate, take-append-drop}
+use lib.ListN.{length, take, drop, getD, set, replicate, length-map, length-append, length-take, length-drop, length-replicate, take-append-drop}
 use lib.ListN.{getD-replicate, List·getD-append}
-use lib.Seq.{length-take-le, take-suc, set-at, take-at, drop-at, take-append-seam, getD-append-add, getD-take, getD-drop, drop-drop}
+use lib.Seq.{ext-getD, length-take-le, take-suc, set-at, take-at, drop-at, take-append-seam, getD-append-add, getD-take, getD-drop, drop-drop}
+use Rattle.laws.specs.Lists.{all}
 use Rattle.laws.specs.Parts.{front, splice, pad}
-use Rattle.laws.proofs.Maps.{map-replicate}
+use Rattle.laws.proofs.Lists.{all-append}
+use Rattle.laws.proofs.Maps.{map-replicate, all-replicate}
 
 module _ {A : Type 0} where
   -- the element i of two lists is the element j of the second
@@ -99,3 +104,27 @@ unfolding pad
 map-pad f n d l =
     map-append f l (replicate (n - length l) d)
     ∙ ap (map f l ++_) (map-replicate f (n - length l) d ∙ ap (λ k. replicate (n - k) (f d)) (sym (length-map l f)))
+
+-- what is so of each element and of the padding is so in the padded list, as a test and as a proposition
+pub all-pad : {A : Type 0} (f : A → Bool) (n : ℕ) (d : A) (l : List A) → f d ≡ true → all f l ≡ true → all f (pad n d l) ≡ true
+unfolding pad
+all-pad f n d l h k = all-append f l (replicate (n - length l) d) ∙ ap₂ _&&_ k (all-replicate f (n - length l) d h)
+
+pub mem-pad : {A : Type 0} (P : A → Type 0) (n : ℕ) (d : A) (l : List A) → P d → ((x : A) → List·Memᴰ x l → P x) → (x : A) → List·Memᴰ x (pad n d l) → P x
+unfolding pad
+mem-pad {A = A} P n d l h k x m = ⊎-elim (k x) (λ r. subst P (sym (copies (n - length l) r)) h) (List·Memᴰ·append-cases l m)
+  where
+    copies : {x : A} (n : ℕ) → List·Memᴰ x (replicate n d) → x ≡ d
+    copies (suc n) (List·Memᴰ·head e) = e
+    copies (suc n) (List·Memᴰ·tail r) = copies n r
+
+-- two padded lists agree behind what they are padded of
+pub pads-agree : {A : Type 0} (n : ℕ) (d : A) (a b : List A) (m : ℕ) → length a ≤ m → length b ≤ m → m ≤ n → drop m (pad n d a) ≡ drop m (pad n d b)
+pads-agree n d a b m h k u =
+    let p = pad n d a in
+    let q = pad n d b in
+    let lp : length p ≡ n = pad-length n d a (omega arith) in
+    let lq : length q ≡ n = pad-length n d b (omega arith) in
+    ext-getD d (drop m p) (drop m q) (omega (arith, length-drop m p, length-drop m q))
+    λ i g. getD-drop m p i d ∙ pad-beyond n d a (m + i) d (omega arith) (omega (arith, length-drop m p))
+    ∙ sym (getD-drop m q i d ∙ pad-beyond n d b (m + i) d (omega arith) (omega (arith, length-drop m p)))

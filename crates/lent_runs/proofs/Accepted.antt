@@ -1,19 +1,19 @@
 -- After an accepted event, for any book and state: what is held is what a state's words can tell, and both counts are within the limit. For the lent
 -- call, which stores it.
-use mathlib.Core.Path.{_≡_, refl, sym, ap, subst, _∙_}
-use mathlib.Core.Bool.{Bool, true, false, _&&_}
+use mathlib.Core.Path.{_≡_, refl, sym, subst}
+use mathlib.Core.Bool.{Bool, true, false}
 use mathlib.Core.List.{List, List·Memᴰ}
 use mathlib.Core.Logic.{⊎-elim}
-use Prim.Native.Nat.{ℕ, _≤_, _<_}
+use Prim.Native.Nat.{ℕ, suc, _≤_, _<_}
 use native.Mathlib.Nat.{eq-or-lt-of-le}
 use native.Mathlib.Omega.{arith}
-use borrow.Author.Tests.{leb-true, le-leb}
+use borrow.Author.Tests.{leb-true}
 use lib.Dec.{leb}
 use lib.ListN.{length}
 use Rattle.laws.specs.Lists.{all}
 use Rattle.laws.proofs.Lists.{and-true-split, all-at, all-of}
 use Rattle.meaning.specs.Book.{soundBook}
-use Rattle.meaning.specs.Labels.{Entry, bound, free, exclusions, Held, State, next}
+use Rattle.meaning.specs.Labels.{Entry, bound, free, exclusions, Held, State, next, newHeld}
 use Rattle.meaning.specs.Room.{room, fewExclusions}
 use Rattle.meaning.specs.Runs.{Admissible}
 use Rattle.meaning.specs.Sound.{soundEntry, soundState, eventLimit}
@@ -25,12 +25,12 @@ use Rattle.record.proofs.Records.{record-event}
 use Rattle.book.specs.declared.Book.{Book}
 use Rattle.book.specs.Books.{viewBook}
 use Rattle.state.specs.declared.State.{State as Struct}
-use Rattle.state.specs.States.{stateOf, heldFirst, viewState}
+use Rattle.state.specs.States.{heldFirst, viewState}
 use Rattle.sound.specs.Soundness.{bookCounts, bookSound, stateCounts, stateSound}
 use Rattle.sound.proofs.Soundness.{book-counts}
 use Rattle.tally.specs.declared.Tally.{Tally}
 use Rattle.calls.specs.Answers.{numberOf}
-use Rattle.calls.specs.Calls.{stateBy, taken}
+use Rattle.calls.specs.Calls.{taken}
 use Rattle.calls.specs.Checks.{unsoundBook, unsoundState}
 use Rattle.demands.proofs.Checks.{first-failing, accepted-leaves}
 use Rattle.demands.proofs.States.{number-within, few-held, piece}
@@ -90,10 +90,18 @@ module _ (b : Book) (s : Struct) (bytes : Bytes) (lent : isBytes bytes ≡ true)
   few-before = leb-true (s .count) 128 (and-true-split (leb (s .count) 128) _ (and-true-split _ (soundState (viewBook b) before) state-is-sound .0) .0)
 
   -- what is held behind
-  pub canonical-after : Canonical (taken b s bytes buffer place t .state)
+  abbrev pub after : State
+  after = record { number = suc (s .number); held = newHeld (viewBook b) (heldFirst (b .variables) s) (eventIn bytes) }
+
+  pub few-after : length (after .held) ≤ 128
+  unfolding viewState
+  few-after = few-held (viewBook b) (next (viewBook b) before (eventIn bytes)) after-sound
+
+  pub each-after : (h : Held) → List·Memᴰ h (after .held) → (length (h .disjunct) ≤ 4) × (fewExclusions (h .disjunct) ≡ true)
   unfolding viewBook viewState
-  canonical-after =
-      let n : State = next (viewBook b) before (eventIn bytes) in
-      subst Canonical (sym (accepted-leaves b s bytes buffer place t accepted .0))
-      (canonical-of n (few-held (viewBook b) n after-sound) λ h m.
-      let (size, each) = piece (viewBook b) n after-sound h m in (omega (arith, size, book-counts b book-is-sound .0), few-of (h .disjunct) each))
+  each-after h m =
+      let (size, each) = piece (viewBook b) (next (viewBook b) before (eventIn bytes)) after-sound h m in
+      (omega (arith, size, book-counts b book-is-sound .0), few-of (h .disjunct) each)
+
+  pub canonical-after : Canonical (taken b s bytes buffer place t .state)
+  canonical-after = subst Canonical (sym (accepted-leaves b s bytes buffer place t accepted .0)) (canonical-of after few-after each-after)

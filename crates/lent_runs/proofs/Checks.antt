@@ -1,24 +1,20 @@
 -- For any words, reached by a run or not: the number that a lent event call hands back is that of the first check that fails, a refusal leaves all but the
 -- refused counter, and a block of another layout is unsound, as are a count over 128, a code above 7 and a tag out of range.
-use mathlib.Core.Path.{_≡_, refl, sym, ap, _∙_}
-use mathlib.Core.Bool.{false, cond, _&&_, and-false}
+use mathlib.Core.Path.{_≡_, refl, ap}
+use mathlib.Core.Bool.{false, cond, and-false}
 use mathlib.Core.List.{List}
-use Prim.Native.Nat.{ℕ, suc, _+_, _*_, _≤_, _<_}
-use native.Mathlib.Omega.{arith}
-use borrow.Author.Tests.{ne-eqb, lt-leb}
-use lib.Dec.{eqb, leb}
-use lib.ListN.{length, getD}
+use Prim.Native.Nat.{ℕ}
+use borrow.Author.Tests.{ne-eqb}
+use lib.ListN.{getD}
 use Rattle.meaning.specs.Book.{soundBook}
 use Rattle.meaning.specs.Sound.{soundState}
 use Rattle.form.specs.Text.{Bytes}
 use Rattle.book.specs.declared.Book.{Book}
 use Rattle.book.specs.Books.{emptyBook, viewBook}
-use Rattle.state.specs.declared.State.{State}
 use Rattle.state.specs.States.{stateOf, viewState}
 use Rattle.sound.specs.Soundness.{bookCounts, bookSound, stateCounts, stateSound}
 use Rattle.tally.specs.Tallies.{tallied}
-use Rattle.calls.specs.Answers.{numberOf}
-use Rattle.calls.specs.Calls.{isAccepted, taken}
+use Rattle.calls.specs.Calls.{taken}
 use Rattle.calls.specs.Checks.{FirstFailing, unsoundBook, unsoundState}
 use Rattle.demands.proofs.Checks.{first-failing, refused-number, refused-stays}
 use Rattle.blocks.specs.BookBlock.{bookIn}

@@ -2,12 +2,11 @@
 use mathlib.Core.Path.{_≡_, refl, sym, ap, ap₂, subst, _∙_}
 use mathlib.Core.Bool.{Bool, true, false, cond}
 use mathlib.Core.List.{List, [], _∷_, map, map-map, List·Memᴰ, List·Memᴰ·head, List·Memᴰ·tail, List·Memᴰ·not-nil}
-use Prim.Native.Nat.{ℕ, suc, _*_, _+_, _<_}
+use Prim.Native.Nat.{ℕ, suc, _<_}
 use native.Mathlib.Omega.{arith}
 use borrow.Author.Tests.{eqb-true, eq-eqb}
 use lib.Dec.{eqb}
 use lib.ListN.{length, getD, take, length-map}
-use Rattle.laws.specs.Lists.{keep}
 use Rattle.laws.proofs.Lists.{and-true-split, all-map, keep-agree, mem-keep}
 use Rattle.laws.proofs.Maps.{take-map, keep-map}
 use Rattle.runs.specs.Runs.{resultsFrom, Within}
@@ -20,13 +19,12 @@ use Rattle.form.specs.Text.{Bytes, isBytes, Declarations, tracematchOf}
 use Rattle.record.specs.Records.{eventIn}
 use Rattle.book.specs.declared.Book.{Book}
 use Rattle.book.proofs.Bench as Bench
-use Rattle.calls.specs.declared.EventAnswer.{EventAnswer}
 use Rattle.calls.specs.declared.EventAnswer.the-variants.{Accepted, Unsound, OutOfForm, TooMany, NoRoom, NoSpace}
 use Rattle.calls.specs.Answers.{numberOf}
 use Rattle.calls.specs.Calls.{isAccepted, freshState, taken}
 use Rattle.calls.specs.Demands.{Demands, runOver}
-use Rattle.calls.specs.Runs.{Call, Made, allBytes, runFrom, wasAccepted, acceptedIn, recordsOf, traceOf, Delivered, Judged, Partners, InOrder, Alike}
-use Rattle.demands.proofs.Checks.{zero-accepted, accepted-zero}
+use Rattle.calls.specs.Runs.{allBytes, runFrom, wasAccepted, acceptedIn, recordsOf, traceOf, Delivered, Judged, Partners, InOrder, Alike}
+use Rattle.demands.proofs.Checks.{accepted-zero}
 use Rattle.demands.proofs.Demands.{demands}
 use Rattle.blocks.specs.BookBlock.{bookIn}
 use Rattle.blocks.specs.StateBlock.{stateHeld, stateIn, stateWords, stateStored}

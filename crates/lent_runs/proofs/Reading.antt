@@ -1,33 +1,30 @@
 -- The words that `watch_read` leaves of an accepted text are read back as the book that was read; those of a refused text are zeros. For the demands.
 use mathlib.Core.Path.{_≡_, refl, sym, ap, subst, _∙_}
 use mathlib.Core.Bool.{true, and-eq-true-iff}
-use mathlib.Core.List.{List, map, List·Memᴰ}
-use Prim.Native.Nat.{ℕ, _+_, _≤_}
+use mathlib.Core.List.{map, List·Memᴰ}
+use Prim.Native.Nat.{_≤_}
 use native.Mathlib.Omega.{arith}
 use borrow.Author.Tests.{leb-true, eq-eqb, ne-eqb}
 use lib.Dec.{leb}
-use lib.ListN.{length, replicate, length-map, length-append, length-replicate}
+use lib.ListN.{length, replicate, length-map, length-append}
 use Rattle.laws.specs.Lists.{numbers}
-use Rattle.laws.specs.Parts.{pad}
 use Rattle.laws.proofs.Lists.{all-at, mem-map, length-numbers}
-use Rattle.laws.proofs.Parts.{pad-length}
+use Rattle.laws.proofs.Parts.{pad-length, mem-pad}
 use Rattle.pattern.specs.Regex.{Regex}
 use Rattle.pattern.specs.Positions as Positions
 use Rattle.pattern.proofs.Masks.{symbols-length}
 use Rattle.meaning.specs.Book.{soundSymbol}
 use Rattle.form.specs.Text.{Bytes, SymbolLine, Declarations, symbolOf, spans}
 use Rattle.form.specs.Lines.{bytesAt}
-use Rattle.form.specs.Form.{Form, allNames}
+use Rattle.form.specs.Form.{Form}
 use Rattle.parsing.proofs.Accepted as Accepted
-use Rattle.table.specs.declared.Symbol.{Symbol}
 use Rattle.table.specs.Tables.{nameOf, noName}
 use Rattle.book.specs.Answers.{numberOf}
 use Rattle.book.specs.Books.{reading}
 use Rattle.book.proofs.Bench as Bench
 use Rattle.blocks.specs.BookBlock.{bookIn}
 use Rattle.blocks.specs.Lent.{readLeft}
-use Rattle.blocks.proofs.Books.{Sized, book-back, book-length}
-use Rattle.blocks.proofs.States.{mem-pad}
+use Rattle.blocks.proofs.Books.{Sized, book-back}
 
 -- an argument place for each of four in a symbol as the book holds it
 lined-four : (l : SymbolLine) → length (l .parameters) ≤ 4 → length (Bench.lined l .parameters) ≡ 4
@@ -61,8 +58,8 @@ module _ (text : Bytes) (d : Declarations) (r : Regex) (f : Form text d r) where
         names = ap length (Bench.book-names text d r f) ∙ pad-length 20 noName (map nameOf (spans d)) (omega (arith, length-map (spans d) nameOf, spans-few));
         table = ap length table ∙ pad-length 16 _ (map Bench.lined (d .symbols)) (omega (arith, length-map (d .symbols) Bench.lined, f .shape .fewSymbols));
         parameters = λ y m.
-            mem-pad (λ y. length (y .parameters) ≡ 4) 16 _ (map Bench.lined (d .symbols))
-            (λ x k. let (l, j, e) = mem-map Bench.lined x (d .symbols) .0 k in ap (λ z. length (z .parameters)) e ∙ lined-four l (few-parameters l j)) refl y
+            mem-pad (λ y. length (y .parameters) ≡ 4) 16 _ (map Bench.lined (d .symbols)) refl
+            (λ x k. let (l, j, e) = mem-map Bench.lined x (d .symbols) .0 k in ap (λ z. length (z .parameters)) e ∙ lined-four l (few-parameters l j)) y
             (subst (List·Memᴰ y) table m);
         occurrences = ap length occurrences ∙ pad-length 31 0 (Positions.symbols r) (omega (arith, symbols-length r, positions));
         follows = ap length follows

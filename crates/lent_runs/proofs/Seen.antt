@@ -1,14 +1,12 @@
 -- A lent call is a call by value over what the words say, and a run of lent calls a run of those: for any words of the stated length. For the demands.
-use mathlib.Core.Path.{_≡_, refl, sym, ap, ap₂, subst, _∙_}
+use mathlib.Core.Path.{_≡_, refl, sym, ap, ap₂, _∙_}
 use mathlib.Core.Bool.{Bool, true, false, cond, false≢true}
 use mathlib.Core.List.{List, [], _∷_, map}
 use Prim.Native.Nat.{ℕ}
-use native.Mathlib.Omega.{arith}
 use lib.Dec.{eqb}
 use lib.ListN.{length}
-use Rattle.laws.specs.Lists.{all}
 use Rattle.laws.proofs.Lists.{and-true-split}
-use Rattle.runs.specs.Runs.{resultsFrom, stateFrom}
+use Rattle.runs.specs.Runs.{resultsFrom}
 use Rattle.form.specs.Text.{isBytes}
 use Rattle.book.specs.declared.Book.{Book}
 use Rattle.state.specs.declared.State.{State}

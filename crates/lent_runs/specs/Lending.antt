@@ -1,7 +1,7 @@
 -- Runs of lent event calls over one block of book words, an instance of the runs of any machine (crate runs), and what the demands say of them: of the
 -- numbers, words and bytes that the calls leave. The theorem `lent-demands` gives it for every text that `watch_read` accepts.
 use mathlib.Core.Path.{_≡_}
-use mathlib.Core.Bool.{Bool, true, cond}
+use mathlib.Core.Bool.{Bool, true}
 use mathlib.Core.List.{List, map}
 use Prim.Native.Nat.{ℕ, suc, _+_, _*_, _≤_, _<_}
 use lib.Dec.{eqb}

@@ -9,10 +9,11 @@ use native.Mathlib.Omega.{arith}
 use borrow.Author.Tests.{leb-true, leb-false, eq-eqb, ne-eqb}
 use borrow.Rule.Slice.PartMut.{midOf}
 use lib.Dec.{leb}
-use lib.ListN.{length, take, drop, getD, set, replicate, length-map, length-take, length-drop, List·getD-map}
+use lib.ListN.{length, take, drop, getD, set, replicate, length-take, List·getD-map}
 use lib.Seq.{take-all}
 use Rattle.laws.specs.Parts.{front, pad}
 use Rattle.laws.proofs.Arrays.{part-at}
+use Rattle.laws.proofs.Fronts.{lent-rest}
 use Rattle.laws.proofs.Parts.{pad-next, pad-full}
 use Rattle.meaning.specs.Labels.{bound, freeDisjunct}
 use Rattle.slot.specs.declared.Slot.{Slot}
@@ -22,7 +23,7 @@ use Rattle.disjunct.specs.Disjuncts.{disjunctOf}
 use Rattle.state.specs.declared.State.{State}
 use Rattle.blocks.specs.Groups.{groups}
 use Rattle.blocks.specs.StateBlock.{slotIn, disjunctIn, stateHeld, stateIn, unknownState}
-use Rattle.blocks.proofs.Groups.{groups-length, groups-at}
+use Rattle.blocks.proofs.Groups.{groups-at, made-length}
 
 pub slot-bound : (w : List ℕ) (r : Slot) → getD w 0 0 ≡ 7 → r ≡ slotOf (bound (getD w 1 0)) → r ≡ slotIn w
 unfolding slotIn
@@ -41,9 +42,6 @@ module _ {A : Type 0} (f : List ℕ → A) (k n : ℕ) (z : A) (w : List ℕ) wh
   abbrev made : List A
   made = map f (groups k n w)
 
-  made-length : length made ≡ n
-  made-length = length-map (groups k n w) f ∙ groups-length k n w
-
   -- a turn of a loop that reads them: what is made of the group i in its place
   pub group-next : (i e : ℕ) {r : List A} {x : A} → i < n → e ≡ k * i + k → r ≡ pad n z (take i made) → x ≡ f (midOf (k * i) (e - k * i) w)
       → set r i x ≡ pad n z (take (i + 1) made)
@@ -51,11 +49,11 @@ module _ {A : Type 0} (f : List ℕ → A) (k n : ℕ) (z : A) (w : List ℕ) wh
       let size : e - k * i ≡ k = omega arith in
       let here : x ≡ getD made i (f []) =
       new ∙ ap (λ m. f (take m (drop (k * i) w))) size ∙ ap f (sym (groups-at k n w i h)) ∙ sym (List·getD-map f (groups k n w) i []) in
-      ap₂ (λ l y. set l i y) before here ∙ pad-next n z made i (f []) (omega (arith, made-length)) h
+      ap₂ (λ l y. set l i y) before here ∙ pad-next n z made i (f []) (omega (arith, made-length f k n w)) h
 
   -- all of them
   pub group-all : (i : ℕ) → n ≤ i → pad n z (take i made) ≡ made
-  group-all i h = ap (pad n z) (take-all i made (omega (arith, made-length))) ∙ pad-full n z made (omega (arith, made-length))
+  group-all i h = ap (pad n z) (take-all i made (omega (arith, made-length f k n w))) ∙ pad-full n z made (omega (arith, made-length f k n w))
 
 module _ {A : Type 0} where
   -- a count above what there is
@@ -79,10 +77,6 @@ module _ {A : Type 0} where
   unfolding front pad
   front-filled n d b = ap (λ r. b ++ r) (drop-replicate (length b) n d)
 
-  -- the part from p on
-  rest : (p : ℕ) (l : List A) → midOf p (length l - p) l ≡ drop p l
-  rest p l = take-all (length l - p) (drop p l) (omega (arith, length-drop p l))
-
 -- the pool before the first turn
 pub pool-none : (d : Disjunct) → d ≡ disjunctOf (freeDisjunct 4) → replicate 128 d ≡ pad 128 (disjunctOf []) []
 unfolding disjunctOf pad
@@ -99,10 +93,10 @@ held-read w n ps l e p q =
     let first = take 128 (drop 3 w) in
     let all = map disjunctIn (groups 28 128 (drop 131 w)) in
     let few : length first ≤ 128 = omega (arith, length-take 128 (drop 3 w)) in
-    let many : length all ≤ 128 = omega (arith, made-length disjunctIn 28 128 (disjunctOf []) (drop 131 w)) in
+    let many : length all ≤ 128 = omega (arith, made-length disjunctIn 28 128 (drop 131 w)) in
     ap₂ (λ x y. record { number = getD w 1 0; count = counted; positions = x; pool = y })
-    (p ∙ ap (λ r. pad 128 0 (take n (take 128 r))) (rest 3 w) ∙ ap (pad 128 0) (ap (λ k. take k first) e ∙ take-least counted 128 first few))
-    (q ∙ ap (λ r. pad 128 (disjunctOf []) (take n (map disjunctIn (groups 28 128 r)))) (rest 131 w)
+    (p ∙ ap (λ r. pad 128 0 (take n (take 128 r))) (lent-rest 3 w) ∙ ap (pad 128 0) (ap (λ k. take k first) e ∙ take-least counted 128 first few))
+    (q ∙ ap (λ r. pad 128 (disjunctOf []) (take n (map disjunctIn (groups 28 128 r)))) (lent-rest 131 w)
     ∙ ap (pad 128 (disjunctOf [])) (ap (λ k. take k all) e ∙ take-least counted 128 all many))
 
 -- by the number of the layout

@@ -5,7 +5,7 @@ use mathlib.Core.Bool.{true, false}
 use mathlib.Core.List.{List, [], _∷_, _++_, List·Memᴰ, List·Memᴰ·not-nil, List·Memᴰ·cases-cons}
 use mathlib.Core.Logic.{_⊎_, inl, inr, ⊎-elim}
 use Prim.Native.Nat.{ℕ, zero, suc, _+_, _*_, _≤_, max}
-use native.Mathlib.Nat.{zero-add, zero-mul, suc-mul, add-comm}
+use native.Mathlib.Nat.{zero-mul, suc-mul, add-comm}
 use native.Mathlib.Omega.{arith}
 use borrow.Author.Tests.{leb-true}
 use denote.Laws.{Is}
@@ -14,13 +14,13 @@ use denote.Array.{each}
 use denote.Struct.Field.{u32-field}
 use mir.Val.{Val}
 use lib.Dec.{leb}
-use lib.ListN.{length, take, drop, getD, set, replicate, length-map, replicate-append-replicate}
-use lib.Seq.{sets, sets-eq}
+use lib.ListN.{length, take, getD, set, replicate, length-map, replicate-append-replicate}
+use lib.Seq.{sets}
 use Rattle.laws.specs.Lists.{gather}
 use Rattle.laws.specs.Parts.{front, splice, pad}
 use Rattle.laws.proofs.Lists.{all-at}
 use Rattle.laws.proofs.Arrays.{by-index}
-use Rattle.laws.proofs.Fronts.{gather-length}
+use Rattle.laws.proofs.Fronts.{gather-length, sets-front}
 use Rattle.laws.proofs.Parts.{pad-length}
 use Rattle.meaning.specs.Labels.{Entry, bound, free, exclusions, fresh}
 use Rattle.slot.specs.declared.Slot.{Slot}
@@ -34,16 +34,7 @@ use Rattle.state.specs.declared.State.{State}
 use Rattle.state.specs.States.{stateOf}
 use Rattle.state.proofs.State as states
 use Rattle.blocks.specs.StateBlock.{entryWords, groupWords, stateHead, stateWords, stateStored}
-
--- stores from the first element on
-pub sets-front : {A : Type 0} (b l : List A) → length b ≤ length l → sets l 0 b ≡ front b l
-unfolding front
-sets-front b l h = sets-eq b l 0 (omega arith) ∙ ap (λ n. b ++ drop n l) (zero-add (length b))
-
--- seven words to a variable, if no more than six are excluded
-entry-length : (x : Entry) → length (exclusions x) ≤ 6 → length (entryWords x) ≡ 7
-entry-length (bound a) h = refl
-entry-length (free xs) h = ap suc (pad-length 6 0 xs h)
+use Rattle.blocks.proofs.States.{entry-length}
 
 module _ (d : Disjunct) (s : Sized d) where
   pub entries-sized : (x : Entry) → List·Memᴰ x (viewDisjunct d) → length (entryWords x) ≡ 7

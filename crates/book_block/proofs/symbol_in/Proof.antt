@@ -6,7 +6,7 @@ use borrow.Author.Needs.{needs}
 use lib.ListN.{getD}
 use Rattle.blocks.specs.Groups.{groups}
 use Rattle.blocks.specs.BookBlock.{parameterIn, symbolIn}
-use Rattle.blocks.proofs.Groups.{lent-rest}
+use Rattle.laws.proofs.Fronts.{lent-rest}
 use Rattle.book_block.proofs.symbol_in.Statement.{statement}
 use Rattle.book_block.proofs.symbol_in.Tie as tie
 

@@ -2,7 +2,7 @@
 use mathlib.Core.List.{[], _∷_}
 use native.Mathlib.Omega.{arith}
 use borrow.Author.Needs.{needs}
-use Rattle.state_block.proofs.Writing.{sets-front}
+use Rattle.laws.proofs.Fronts.{sets-front}
 use Rattle.state_block.proofs.put_head.Statement.{statement}
 use Rattle.state_block.proofs.put_head.Tie as tie
 

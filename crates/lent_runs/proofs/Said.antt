@@ -1,0 +1,223 @@
+-- The words of the lent calls, each with its text: what stands where in a block, for any words, and what the calls hand back and leave. So that a layout, or what
+-- a call leaves, cannot be another one than is stated here and in bindings/c/watch.h.
+use mathlib.Core.Path.{_≡_, refl, sym, ap, ap₂, _∙_}
+use mathlib.Core.Bool.{Bool, true, false, cond, not}
+use mathlib.Core.List.{List, [], _∷_, _++_, map}
+use Prim.Native.Nat.{ℕ, _+_, _-_, _*_, _<_}
+use native.Mathlib.Omega.{arith}
+use borrow.Author.Tests.{eq-eqb, ne-eqb}
+use lib.Dec.{eqb}
+use lib.ListN.{length, getD, take, drop, replicate, length-take, length-drop}
+use lib.Seq.{ext-getD, length-take-le, getD-take, getD-drop}
+use Rattle.laws.specs.Lists.{all, keep, gather}
+use Rattle.laws.specs.Parts.{pad}
+use Rattle.laws.proofs.Parts.{pad-at}
+use Rattle.runs.specs.Runs.{resultsFrom}
+use Rattle.meaning.specs.Labels.{bound, free}
+use Rattle.form.specs.Text.{Bytes, isBytes}
+use Rattle.record.specs.Records.{eventIn}
+use Rattle.table.specs.declared.Symbol.{Symbol}
+use Rattle.slot.specs.Slots.{slotOf}
+use Rattle.disjunct.specs.Disjuncts.{viewDisjunct}
+use Rattle.book.specs.declared.Book.{Book}
+use Rattle.book.specs.Answers as Reading
+use Rattle.book.specs.Books.{reading, emptyBook}
+use Rattle.state.specs.declared.State.{State}
+use Rattle.state.specs.States.{stateOf}
+use Rattle.tally.specs.declared.Tally.{Tally}
+use Rattle.calls.specs.Answers.{numberOf}
+use Rattle.calls.specs.Calls.{isAccepted, freshState, taken, bufferAfter}
+use Rattle.blocks.specs.Groups.{groups}
+use Rattle.blocks.specs.BookBlock as Books
+use Rattle.blocks.specs.BookBlock.{nameIn, parameterIn, symbolIn, bookHeld, bookIn, bookWords}
+use Rattle.blocks.specs.StateBlock as States
+use Rattle.blocks.specs.StateBlock.{slotIn, disjunctIn, stateHeld, unknownState, stateIn, entryWords, groupWords, stateWords, stateStored}
+use Rattle.blocks.specs.TallyBlock.{tallySize, tallyIn, tallyWords}
+use Rattle.blocks.specs.Lent.{readLeft, eventLeft}
+use Rattle.blocks.proofs.Groups.{made-at}
+use Rattle.lent_runs.specs.Lending.{LentCall, LentMade, lentBytes, lending, lentRun, lentAccepted, lentRecords, lentTrace, lentAs}
+use Rattle.lent_runs.proofs.Damage.{word-of, held-at}
+
+-- the numbers of the layouts, and how many words a book, a state and a tally have
+pub sizes-said : (Books.bookLayout ≡ 1001) × (Books.bookSize ≡ 269) × (States.stateLayout ≡ 2001) × (States.stateSize ≡ 3715) × (tallySize ≡ 3)
+sizes-said = (refl, refl, refl, refl, refl)
+
+-- the word j of a group of k that begins at `at` in the part from `from` on
+part-word : (k at from : ℕ) (w : List ℕ) (j n : ℕ) → j < k → from + (at + j) ≡ n → getD (take k (drop at (drop from w))) j 0 ≡ getD w n 0
+part-word k at from w j n h e = word-of k at (drop from w) j h ∙ getD-drop from w (at + j) 0 ∙ ap (λ m. getD w m 0) e
+
+-- A book's block of this layout.
+module _ (w : List ℕ) (layout : getD w 0 0 ≡ 1001) where
+  abbrev b : Book
+  b = bookIn w
+
+  book-is : bookIn w ≡ bookHeld w
+  unfolding bookIn
+  book-is = ap (λ z. cond z (bookHeld w) emptyBook) (eq-eqb (getD w 0 0) 1001 layout)
+
+  pub book-head-said : (b .variables ≡ getD w 1 0) × (b .symbols ≡ getD w 2 0) × (b .positions ≡ getD w 3 0) × (b .begins ≡ getD w 4 0)
+      × (b .ends ≡ getD w 5 0) × (b .empty ≡ not (eqb (getD w 6 0) 0))
+  unfolding bookHeld
+  book-head-said = rw book-is (refl, refl, refl, refl, refl, refl)
+
+  -- the name i: its start and its size
+  pub name-said : (i : ℕ) → i < 20 → getD (b .names) i (record { start = 0; size = 0 }) ≡ record { start = getD w (7 + 2 * i) 0; size = getD w (8 + 2 * i) 0 }
+  unfolding bookHeld nameIn
+  name-said i h =
+      ap (λ b. getD (b .names) i (nameIn [])) book-is ∙ made-at nameIn 2 20 (drop 7 w) i h
+      ∙ ap₂ (λ x y. record { start = x; size = y }) (part-word 2 (2 * i) 7 w 0 (7 + 2 * i) (omega arith) (omega arith))
+      (part-word 2 (2 * i) 7 w 1 (8 + 2 * i) (omega arith) (omega arith))
+
+  -- the symbol a: its kind, its count, and of each of its parameters the tag and the number
+  abbrev symbol : ℕ → Symbol
+  symbol a = getD (b .table) a (record { kind = 0; count = 0; parameters = map parameterIn (groups 2 4 []) })
+
+  pub symbol-said : (a : ℕ) → a < 16 → (symbol a .kind ≡ getD w (47 + 10 * a) 0) × (symbol a .count ≡ getD w (48 + 10 * a) 0)
+      × ((j : ℕ) → j < 4 → getD (symbol a .parameters) j (record { tag = 0; number = 0 })
+      ≡ record { tag = getD w (49 + 10 * a + 2 * j) 0; number = getD w (50 + 10 * a + 2 * j) 0 })
+  unfolding bookHeld symbolIn parameterIn
+  symbol-said a h =
+      let g = take 10 (drop (10 * a) (drop 47 w)) in
+      let here : symbol a ≡ symbolIn g = ap (λ b. getD (b .table) a (symbolIn [])) book-is ∙ made-at symbolIn 10 16 (drop 47 w) a h in (
+        ap (λ y. y .kind) here ∙ part-word 10 (10 * a) 47 w 0 (47 + 10 * a) (omega arith) (omega arith),
+        ap (λ y. y .count) here ∙ part-word 10 (10 * a) 47 w 1 (48 + 10 * a) (omega arith) (omega arith),
+        λ j k.
+            ap (λ y. getD (y .parameters) j (parameterIn [])) here ∙ made-at parameterIn 2 4 (drop 2 g) j k
+            ∙ ap₂ (λ x y. record { tag = x; number = y })
+            (part-word 2 (2 * j) 2 g 0 (2 + 2 * j) (omega arith) (omega arith)
+            ∙ part-word 10 (10 * a) 47 w (2 + 2 * j) (49 + 10 * a + 2 * j) (omega arith) (omega arith))
+            (part-word 2 (2 * j) 2 g 1 (3 + 2 * j) (omega arith) (omega arith)
+            ∙ part-word 10 (10 * a) 47 w (3 + 2 * j) (50 + 10 * a + 2 * j) (omega arith) (omega arith)),
+      )
+
+  -- the symbol of the position k + 1, and the set of those that follow it
+  pub positions-said : (k : ℕ) → k < 31 → (getD (b .occurrences) k 0 ≡ getD w (207 + k) 0) × (getD (b .follows) k 0 ≡ getD w (238 + k) 0)
+  unfolding bookHeld
+  positions-said k h = rw book-is (word-of 31 207 w k h, word-of 31 238 w k h)
+
+-- A block of another layout holds the empty book.
+pub no-book-said : (w : List ℕ) → (getD w 0 0 ≡ 1001 → ⊥) → bookIn w ≡ emptyBook
+unfolding bookIn
+no-book-said w h = ap (λ z. cond z (bookHeld w) emptyBook) (ne-eqb (getD w 0 0) 1001 h)
+
+-- What a variable's seven words say: a value, or the count of exclusions, as it stands, and the exclusions.
+pub slot-said : (g : List ℕ) → (getD g 0 0 ≡ 7 → slotIn g ≡ record { bound = true; value = getD g 1 0; count = 0; excluded = replicate 6 0 })
+    × ((getD g 0 0 ≡ 7 → ⊥) → slotIn g ≡ record { bound = false; value = 0; count = getD g 0 0; excluded = take 6 (drop 1 g) })
+unfolding slotIn slotOf
+slot-said g = (λ e. rw e, λ n. rw (ne-eqb (getD g 0 0) 7 n))
+
+-- A state's block of this layout.
+module _ (w : List ℕ) (layout : getD w 0 0 ≡ 2001) where
+  -- the seven words of a variable
+  seven : (i v : ℕ) → i < 128 → v < 4 → length w ≡ 3715 → take 7 (drop (7 * v) (take 28 (drop (28 * i) (drop 131 w)))) ≡ take 7 (drop (131 + 28 * i + 7 * v) w)
+  seven i v k u long =
+      let group = take 28 (drop (28 * i) (drop 131 w)) in
+      let at = 131 + 28 * i + 7 * v in
+      let behind : length (drop (28 * i) (drop 131 w)) ≡ 3584 - 28 * i = length-drop (28 * i) (drop 131 w) ∙ ap (λ n. n - 28 * i) (length-drop 131 w ∙ omega arith) in
+      let wide : length group ≡ 28 = length-take-le 28 (drop (28 * i) (drop 131 w)) (omega arith) in
+      let left : length (take 7 (drop (7 * v) group)) ≡ 7 = length-take-le 7 (drop (7 * v) group) (omega (arith, length-drop (7 * v) group)) in
+      let right : length (take 7 (drop at w)) ≡ 7 = length-take-le 7 (drop at w) (omega (arith, length-drop at w)) in
+      ext-getD 0 (take 7 (drop (7 * v) group)) (take 7 (drop at w)) (left ∙ sym right) λ j h.
+      word-of 7 (7 * v) group j (omega arith) ∙ part-word 28 (28 * i) 131 w (7 * v + j) (at + j) (omega arith) (omega arith) ∙ sym (word-of 7 at w j (omega arith))
+
+  abbrev s : State
+  s = stateIn w
+
+  state-is : stateIn w ≡ stateHeld w
+  unfolding stateIn
+  state-is = ap (λ z. cond z (stateHeld w) unknownState) (eq-eqb (getD w 0 0) 2001 layout)
+
+  pub state-head-said : (s .number ≡ getD w 1 0) × (s .count ≡ getD w 2 0)
+  unfolding stateHeld
+  state-head-said = rw state-is (refl, refl)
+
+  -- what is counted: the position i, and of its disjunct the variable v
+  pub place-said : (i : ℕ) → i < getD w 2 0 → i < 128 → length w ≡ 3715 → (getD (s .positions) i 0 ≡ getD w (3 + i) 0)
+      × ((v : ℕ) → v < 4 → getD (getD (s .pool) i (disjunctIn []) .vars) v (slotIn []) ≡ slotIn (take 7 (drop (131 + 28 * i + 7 * v) w)))
+  unfolding stateHeld disjunctIn
+  place-said i h k long =
+      let n = getD w 2 0 in
+      let first = take 128 (drop 3 w) in
+      let size : length first ≡ 128 = length-take-le 128 (drop 3 w) (omega (arith, length-drop 3 w)) in
+      let group = take 28 (drop (28 * i) (drop 131 w)) in
+      rw state-is (
+        pad-at 128 0 (take n first) i 0 (omega (arith, length-take n first)) ∙ getD-take n first i 0 h ∙ getD-take 128 (drop 3 w) i 0 k ∙ getD-drop 3 w i 0,
+        λ v u.
+            ap (λ d. getD (d .vars) v (slotIn [])) (held-at w i v h k u) ∙ made-at slotIn 7 4 group v u ∙ ap slotIn (seven i v k u long),
+      )
+
+pub no-state-said : (w : List ℕ) → (getD w 0 0 ≡ 2001 → ⊥) → stateIn w ≡ stateOf (record { number = 1000001; held = [] })
+unfolding stateIn
+no-state-said w h = ap (λ z. cond z (stateHeld w) unknownState) (ne-eqb (getD w 0 0) 2001 h)
+
+-- A tally's three words.
+pub tally-said : (w : List ℕ) → tallyIn w ≡ record { accepted = getD w 0 0; refused = getD w 1 0; rows = getD w 2 0 }
+unfolding tallyIn
+tally-said w = refl
+
+-- Structs to words: a name, a parameter, a symbol, what is before the names, all of a book.
+pub book-words-said : (b : Book) → bookWords b
+    ≡ 1001 ∷ b .variables ∷ b .symbols ∷ b .positions ∷ b .begins ∷ b .ends ∷ cond (b .empty) 1 0 ∷ []
+    ++ gather (λ x. x .start ∷ x .size ∷ []) (b .names)
+    ++ gather (λ y. y .kind ∷ y .count ∷ gather (λ p. p .tag ∷ p .number ∷ []) (y .parameters)) (b .table) ++ b .occurrences ++ b .follows
+unfolding bookWords
+book-words-said b = refl
+
+-- a variable, a disjunct, all of a state, and a tally
+pub entry-words-said : ((a : ℕ) → entryWords (bound a) ≡ 7 ∷ a ∷ 0 ∷ 0 ∷ 0 ∷ 0 ∷ 0 ∷ []) × ((xs : List ℕ) → entryWords (free xs) ≡ length xs ∷ pad 6 0 xs)
+entry-words-said = (λ a. refl, λ xs. refl)
+
+pub state-words-said : (s : State) → stateWords s ≡ 2001 ∷ s .number ∷ s .count ∷ [] ++ s .positions ++ gather (λ d. gather entryWords (viewDisjunct d)) (s .pool)
+unfolding stateWords groupWords
+state-words-said s = refl
+
+pub tally-words-said : (t : Tally) → tallyWords t ≡ t .accepted ∷ t .refused ∷ t .rows ∷ []
+unfolding tallyWords
+tally-words-said t = refl
+
+-- What `watch_read` hands back and leaves.
+pub read-left-said : (text : Bytes) → let r = reading text in
+    (readLeft text .number ≡ Reading.numberOf (r .answer)) × (readLeft text .place ≡ Reading.placeOf (r .answer))
+    × (readLeft text .begins ≡ r .«begin_count») × (readLeft text .ends ≡ r .«end_count»)
+    × (Reading.numberOf (r .answer) ≡ 0 → readLeft text .book ≡ bookWords (r .book))
+    × ((Reading.numberOf (r .answer) ≡ 0 → ⊥) → readLeft text .book ≡ replicate 269 0)
+unfolding readLeft
+read-left-said text =
+    let r = reading text in
+    let n = Reading.numberOf (r .answer) in
+    let words : Bool → List ℕ = λ z. cond z (bookWords (r .book)) (replicate 269 0) in
+    (refl, refl, refl, refl, λ e. ap words (eq-eqb n 0 e), λ e. ap words (ne-eqb n 0 e))
+
+-- What `watch_event` hands back and leaves.
+pub event-left-said : (w s : List ℕ) (bytes buffer : Bytes) (place : ℕ) (t : List ℕ)
+    → let r = taken (bookIn w) (stateIn s) bytes buffer place (tallyIn t) in
+    let l = eventLeft w s bytes buffer place t in
+    (l .number ≡ numberOf (r .answer)) × (l .rows ≡ r .rows) × (l .buffer ≡ bufferAfter (bookIn w) (stateIn s) bytes buffer place)
+    × (l .tally ≡ tallyWords (r .tally)) × (isAccepted (r .answer) ≡ true → l .state ≡ stateStored s (r .state))
+    × (isAccepted (r .answer) ≡ false → l .state ≡ s)
+unfolding eventLeft
+event-left-said w s bytes buffer place t =
+    let r = taken (bookIn w) (stateIn s) bytes buffer place (tallyIn t) in
+    let words : Bool → List ℕ = λ z. cond z (stateStored s (r .state)) s in
+    (refl, refl, refl, refl, λ e. ap words e, λ e. ap words e)
+
+-- Runs of lent calls: from the words of the fresh state, each call gets the words that the one before it left; accepted are those with the number 0.
+pub lent-run-said : (text : Bytes) (cs : List LentCall) → lentRun text cs ≡ resultsFrom (lending (readLeft text .book)) (stateWords freshState) cs
+lent-run-said text cs = refl
+
+pub lending-said : (w s : List ℕ) (c : LentCall) (m : LentMade)
+    → (lending w .gives s c ≡ record { lent = c; left = eventLeft w s (c .bytes) (c .buffer) (c .place) (c .tally) }) × (lending w .leaves m ≡ m .left .state)
+lending-said w s c m = (refl, refl)
+
+pub lent-trace-said : (ms : List LentMade) → (lentAccepted ms ≡ keep (λ m. eqb (m .left .number) 0) ms)
+    × (lentRecords ms ≡ map (λ m. m .lent .bytes) (keep (λ m. eqb (m .left .number) 0) ms))
+    × (lentTrace ms ≡ map eventIn (map (λ m. m .lent .bytes) (keep (λ m. eqb (m .left .number) 0) ms)))
+lent-trace-said ms = (refl, refl, refl)
+
+pub lent-as-said : (c : LentCall) → lentAs c
+    ≡ record { bytes = c .bytes; buffer = c .buffer; place = c .place; tally = record { accepted = getD (c .tally) 0 0; refused = getD (c .tally) 1 0; rows = getD (c .tally) 2 0 } }
+unfolding tallyIn
+lent-as-said c = refl
+
+pub lent-bytes-said : (cs : List LentCall) → lentBytes cs ≡ all (λ c. isBytes (c .bytes)) cs
+lent-bytes-said cs = refl
