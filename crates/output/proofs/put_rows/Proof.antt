@@ -1,11 +1,11 @@
--- `printing::put_rows` is safe and ends: only whole rows of the row buffer are put, so every part lies inside it.
+-- `output::put_rows` is safe and ends: only whole rows of the row buffer are put, so every part lies inside it.
 -- The invariant also keeps the output buffer's length; the measure is the rows left. Every need is searched.
 use mathlib.Core.Path.{_≡_}
 use Prim.Native.Nat.{_≤_, _-_, _/_}
 use lib.ListN.{length}
 use borrow.Author.Needs.{needs}
-use Rattle.printing.proofs.put_rows.Statement.{statement}
-use Rattle.printing.proofs.put_rows.Tie as tie
+use Rattle.output.proofs.put_rows.Statement.{statement}
+use Rattle.output.proofs.put_rows.Tie as tie
 
 abbrev Inv-loop : tie.InvT-loop
 Inv-loop out₀ at rows count variables n k₀ i₀ out k i = (n ≤ length rows / 24) × (length out ≡ length out₀)

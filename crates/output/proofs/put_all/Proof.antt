@@ -1,11 +1,11 @@
--- `printing::put_all` is safe and ends: the measure is what is left of the bytes.
+-- `output::put_all` is safe and ends: the measure is what is left of the bytes.
 -- The invariant: the output buffer keeps its length, as the caller is promised. Every need is searched.
 use mathlib.Core.Path.{_≡_}
 use Prim.Native.Nat.{_-_}
 use lib.ListN.{length}
 use borrow.Author.Needs.{needs}
-use Rattle.printing.proofs.put_all.Statement.{statement}
-use Rattle.printing.proofs.put_all.Tie as tie
+use Rattle.output.proofs.put_all.Statement.{statement}
+use Rattle.output.proofs.put_all.Tie as tie
 
 abbrev Inv-loop : tie.InvT-loop
 Inv-loop out₀ at bytes k₀ i₀ out k i = length out ≡ length out₀

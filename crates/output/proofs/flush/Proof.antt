@@ -1,11 +1,11 @@
--- `printing::flush` is safe and ends: the part that is written is inside the buffer.
+-- `output::flush` is safe and ends: the part that is written is inside the buffer.
 -- The test before the write says so; the one need by hand is that the part has as many bytes as were asked.
 use mathlib.Core.Path.{sym}
 use native.Mathlib.Omega.{arith}
 use lib.Seq.{length-take-le}
 use borrow.Author.Needs.{needs}
-use Rattle.printing.proofs.flush.Statement.{statement}
-use Rattle.printing.proofs.flush.Tie as tie
+use Rattle.output.proofs.flush.Statement.{statement}
+use Rattle.output.proofs.flush.Tie as tie
 
 slice-aggregate-write-all : tie.Need-slice-aggregate-write-all
 slice-aggregate-write-all c = sym (length-take-le _ _ (omega arith))

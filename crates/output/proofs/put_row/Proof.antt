@@ -1,11 +1,11 @@
--- `printing::put_row` is safe and ends: at most four values are put, which is what `value` requires.
+-- `output::put_row` is safe and ends: at most four values are put, which is what `value` requires.
 -- The invariant also keeps the output buffer's length; the measure is the values left. Every need is searched.
 use mathlib.Core.Path.{_≡_}
 use Prim.Native.Nat.{_≤_, _-_}
 use lib.ListN.{length}
 use borrow.Author.Needs.{needs}
-use Rattle.printing.proofs.put_row.Statement.{statement}
-use Rattle.printing.proofs.put_row.Tie as tie
+use Rattle.output.proofs.put_row.Statement.{statement}
+use Rattle.output.proofs.put_row.Tie as tie
 
 abbrev Inv-loop : tie.InvT-loop
 Inv-loop out₀ at row variables n start k₀ i₀ out k i = (n ≤ 4) × (length out ≡ length out₀)
