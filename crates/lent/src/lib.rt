@@ -1,6 +1,7 @@
 // The watch over lent memory, for programs in C and Rust too: book, state and tally are blocks of words that the caller keeps, and no call keeps
 // anything. Parameters are numbers, slices, and references to arrays and numbers: no struct, no enum and no bool crosses. No call has a
-// `requires`: any words, bytes, places and numbers are taken or refused.
+// `requires`: any words, bytes, places and numbers are taken or refused. What is lent to one call must not overlap, which borrows see to in Rattle
+// and Rust and a caller in C has to (bindings/c/watch.h).
 use tally::Tally;
 ghost use mathlib.Core.Path.{_≡_};
 ghost use mathlib.Core.Bool.{true};

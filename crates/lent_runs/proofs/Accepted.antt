@@ -103,5 +103,9 @@ module _ (b : Book) (s : Struct) (bytes : Bytes) (lent : isBytes bytes ≡ true)
       let (size, each) = piece (viewBook b) (next (viewBook b) before (eventIn bytes)) after-sound h m in
       (omega (arith, size, book-counts b book-is-sound .0), few-of (h .disjunct) each)
 
+  pub wide-after : (h : Held) → List·Memᴰ h (after .held) → length (h .disjunct) ≡ b .variables
+  unfolding viewBook viewState
+  wide-after h m = piece (viewBook b) (next (viewBook b) before (eventIn bytes)) after-sound h m .0
+
   pub canonical-after : Canonical (taken b s bytes buffer place t .state)
   canonical-after = subst Canonical (sym (accepted-leaves b s bytes buffer place t accepted .0)) (canonical-of after few-after each-after)

@@ -1,22 +1,27 @@
 -- For any words, reached by a run or not: the number that a lent event call hands back is that of the first check that fails, a refusal leaves all but the
--- refused counter, and a block of another layout is unsound, as are a count over 128, a code above 7 and a tag out of range.
+-- refused counter, an acceptance the rows and the tally, and a block of another layout is unsound, as are a count over 128, a code above 7 and a tag out of range.
 use mathlib.Core.Path.{_≡_, refl, ap}
 use mathlib.Core.Bool.{false, cond, and-false}
 use mathlib.Core.List.{List}
-use Prim.Native.Nat.{ℕ}
+use Prim.Native.Nat.{ℕ, suc}
 use borrow.Author.Tests.{ne-eqb}
-use lib.ListN.{getD}
+use lib.ListN.{length, getD}
+use Rattle.laws.specs.Lists.{gather}
+use Rattle.laws.specs.Parts.{splice}
 use Rattle.meaning.specs.Book.{soundBook}
+use Rattle.meaning.specs.Rows.{rows}
 use Rattle.meaning.specs.Sound.{soundState}
 use Rattle.form.specs.Text.{Bytes}
+use Rattle.record.specs.Records.{eventIn}
+use Rattle.row.specs.RowBytes.{rowBytes}
 use Rattle.book.specs.declared.Book.{Book}
 use Rattle.book.specs.Books.{emptyBook, viewBook}
-use Rattle.state.specs.States.{stateOf, viewState}
+use Rattle.state.specs.States.{stateOf, heldFirst, viewState}
 use Rattle.sound.specs.Soundness.{bookCounts, bookSound, stateCounts, stateSound}
 use Rattle.tally.specs.Tallies.{tallied}
 use Rattle.calls.specs.Calls.{taken}
 use Rattle.calls.specs.Checks.{FirstFailing, unsoundBook, unsoundState}
-use Rattle.demands.proofs.Checks.{first-failing, refused-number, refused-stays}
+use Rattle.demands.proofs.Checks.{first-failing, refused-number, refused-stays, accepted-leaves}
 use Rattle.blocks.specs.BookBlock.{bookIn}
 use Rattle.blocks.specs.StateBlock.{stateIn, unknownState, stateStored}
 use Rattle.blocks.specs.TallyBlock.{tallyIn, tallyWords}
@@ -45,6 +50,18 @@ module _ (w s : List ℕ) (bytes buffer : Bytes) (place : ℕ) (t : List ℕ) wh
       let r = taken (bookIn w) (stateIn s) bytes buffer place (tallyIn t) in
       let (_, _, rows, tally, left) = refused-stays (bookIn w) (stateIn s) bytes buffer place (tallyIn t) h in
       (rows, left, ap (λ z. cond z (stateStored s (r .state)) s) (refused-number (r .answer) h), ap tallyWords tally)
+
+  -- the rows of what the words hold, from the place on, each with the event's number; one accepted event and these rows more
+  pub lent-accepted-leaves : eventLeft w s bytes buffer place t .number ≡ 0
+      → let b = bookIn w in
+      let l = rows (viewBook b) (heldFirst (b .variables) (stateIn s)) (eventIn bytes) in
+      let m = eventLeft w s bytes buffer place t in
+      (m .rows ≡ length l) × (m .tally ≡ tallyWords (tallied (tallyIn t) 1 0 (length l)))
+      × (m .buffer ≡ splice place (gather (rowBytes (suc (stateIn s .number)) (b .variables)) l) buffer)
+  unfolding eventLeft
+  lent-accepted-leaves h =
+      let (_, count, tally, left) = accepted-leaves (bookIn w) (stateIn s) bytes buffer place (tallyIn t) h in
+      (count, ap tallyWords tally, left)
 
   -- a book's block of another layout holds the empty book, a state's block of another layout a state above the limit of events
   pub other-book : (getD w 0 0 ≡ 1001 → ⊥) → eventLeft w s bytes buffer place t .number ≡ 9

@@ -23,15 +23,12 @@ use Rattle.blocks.specs.StateBlock.{slotIn, disjunctIn, stateHeld, stateIn}
 use Rattle.blocks.specs.Lent.{eventLeft}
 use Rattle.blocks.proofs.Groups.{made-length, made-at}
 use Rattle.lent_runs.proofs.Checks.{lent-first-failing, other-book, other-state}
+use Rattle.lent_runs.proofs.Places.{word-of}
 
 -- a test that cannot pass fails
 fails : (z : Bool) → (z ≡ true → ⊥) → z ≡ false
 fails true h = absurd (h refl)
 fails false h = refl
-
--- the word j of a group
-pub word-of : (k at : ℕ) (w : List ℕ) (j : ℕ) → j < k → getD (take k (drop at w)) j 0 ≡ getD w (at + j) 0
-word-of k at w j h = getD-take k (drop at w) j 0 h ∙ getD-drop at w j 0
 
 -- the code of a variable, out of range, is that of no slot whose counts are in range
 slot-over : (g : List ℕ) → 7 < getD g 0 0 → slotCounts (slotIn g) ≡ false

@@ -3,7 +3,6 @@ use mathlib.Core.Path.{_≡_, refl, sym, ap, ap₂, subst, _∙_}
 use mathlib.Core.Bool.{Bool, true, false, cond}
 use mathlib.Core.List.{List, [], _∷_, map, map-map, List·Memᴰ, List·Memᴰ·head, List·Memᴰ·tail, List·Memᴰ·not-nil}
 use Prim.Native.Nat.{ℕ, suc, _<_}
-use native.Mathlib.Omega.{arith}
 use borrow.Author.Tests.{eqb-true, eq-eqb}
 use lib.Dec.{eqb}
 use lib.ListN.{length, getD, take, length-map}
@@ -13,7 +12,6 @@ use Rattle.runs.specs.Runs.{resultsFrom, Within}
 use Rattle.runs.proofs.Runs.{within-at, within-one, within-map, within-mem}
 use Rattle.pattern.specs.Regex.{Regex}
 use Rattle.meaning.specs.Events.{Event}
-use Rattle.meaning.specs.Labels.{fresh}
 use Rattle.meaning.specs.Meaning.{Tracematch}
 use Rattle.form.specs.Text.{Bytes, isBytes, Declarations, tracematchOf}
 use Rattle.record.specs.Records.{eventIn}
@@ -30,13 +28,13 @@ use Rattle.blocks.specs.BookBlock.{bookIn}
 use Rattle.blocks.specs.StateBlock.{stateHeld, stateIn, stateWords, stateStored}
 use Rattle.blocks.specs.TallyBlock.{tallyIn, tallyWords}
 use Rattle.blocks.specs.Lent.{readLeft, eventLeft}
-use Rattle.blocks.proofs.States.{Canonical, canonical-of, state-back, state-length, stored-head}
+use Rattle.blocks.proofs.States.{state-back, state-length, stored-head}
 use Rattle.blocks.proofs.Tallies.{tally-back}
 use Rattle.lent_runs.specs.Lending.{LentCall, LentMade, lentBytes, lending, lentRun, lentTaken, lentAccepted, lentRecords, lentTrace, lentAs}
 use Rattle.lent_runs.specs.Lending.{LentDelivered, LentAlike, LentDemands}
 use Rattle.lent_runs.proofs.Accepted.{canonical-after}
 use Rattle.lent_runs.proofs.Reading.{read-back}
-use Rattle.lent_runs.proofs.Seen.{answerWith, answer-back, seen, calls, state-seen, run-seen}
+use Rattle.lent_runs.proofs.Seen.{fresh-canonical, answerWith, answer-back, seen, calls, state-seen, run-seen}
 
 -- accepted is what has the number 0
 taken-seen : (n : ℕ) → isAccepted (answerWith n) ≡ eqb n 0
@@ -122,11 +120,6 @@ module _ (tm : Tracematch) (b : Book) where
         counts = g .counts;
         bytes = g .bytes;
       }
-
--- the fresh state's words
-fresh-canonical : Canonical freshState
-unfolding freshState
-fresh-canonical = canonical-of fresh (omega arith) (λ h m. absurd (List·Memᴰ·not-nil m))
 
 -- A text that `watch_read` accepts, and lent calls over it.
 module _ (text : Bytes) (read : readLeft text .number ≡ 0) (cs : List LentCall) (bytes : lentBytes cs ≡ true) where

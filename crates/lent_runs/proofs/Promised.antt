@@ -63,16 +63,17 @@ lent-demands-said text d r = (
   λ (a, b, c, e). record { form = a; rows = b; answers = c; crossed = e },
 )
 
-pub stored-said : (number : ℕ) (held : List Held) (old : ℕ) (before after : List ℕ)
+pub stored-said : (variables number : ℕ) (held : List Held) (old : ℕ) (before after : List ℕ)
     → let at : ℕ → Held = λ i. getD held i (record { position = 0; disjunct = [] }) in
     let group : List ℕ → ℕ → List ℕ = λ w i. take 28 (drop (131 + 28 * i) w) in
-    StoredWords number held old before after
+    StoredWords variables number held old before after
     ↔ ((length after ≡ 3715) × ((getD after 0 0 ≡ 2001) × (getD after 1 0 ≡ number) × (getD after 2 0 ≡ length held))
     × ((i : ℕ) → i < length held → getD after (3 + i) 0 ≡ at i .position)
     × ((i : ℕ) → i < length held → group after i ≡ gather entryWords (pad 4 (free []) (at i .disjunct)))
+    × ((i v : ℕ) → i < length held → variables ≤ v → v < 4 → take 7 (drop (131 + 28 * i + 7 * v) after) ≡ replicate 7 0)
     × ((i : ℕ) → length held ≤ i → i < old → i < 128 → (getD after (3 + i) 0 ≡ 0) × (group after i ≡ replicate 28 0))
     × ((i : ℕ) → length held ≤ i → old ≤ i → i < 128 → (getD after (3 + i) 0 ≡ getD before (3 + i) 0) × (group after i ≡ group before i)))
-stored-said number held old before after = (
-  λ r. (r .size, r .head, r .positions, r .groups, r .freed, r .later),
-  λ (a, b, c, d, e, f). record { size = a; head = b; positions = c; groups = d; freed = e; later = f },
+stored-said variables number held old before after = (
+  λ r. (r .size, r .head, r .positions, r .groups, r .beyond, r .freed, r .later),
+  λ (a, b, c, d, g, e, f). record { size = a; head = b; positions = c; groups = d; beyond = g; freed = e; later = f },
 )

@@ -2,24 +2,30 @@
 use mathlib.Core.Path.{_≡_, refl, sym, ap, subst, _∙_}
 use mathlib.Core.Bool.{true, and-eq-true-iff}
 use mathlib.Core.List.{map, List·Memᴰ}
+use mathlib.Core.Logic.{_↔_}
 use Prim.Native.Nat.{_≤_}
 use native.Mathlib.Omega.{arith}
 use borrow.Author.Tests.{leb-true, eq-eqb, ne-eqb}
 use lib.Dec.{leb}
 use lib.ListN.{length, replicate, length-map, length-append}
-use Rattle.laws.specs.Lists.{numbers}
+use Rattle.laws.specs.Bits.{bit}
+use Rattle.laws.specs.Lists.{keep, numbers}
 use Rattle.laws.proofs.Lists.{all-at, mem-map, length-numbers}
 use Rattle.laws.proofs.Parts.{pad-length, mem-pad}
 use Rattle.pattern.specs.Regex.{Regex}
 use Rattle.pattern.specs.Positions as Positions
 use Rattle.pattern.proofs.Masks.{symbols-length}
 use Rattle.meaning.specs.Book.{soundSymbol}
-use Rattle.form.specs.Text.{Bytes, SymbolLine, Declarations, symbolOf, spans}
+use Rattle.form.specs.Text.{Bytes, isBytes, SymbolLine, Declarations, symbolOf, spans}
 use Rattle.form.specs.Lines.{bytesAt}
 use Rattle.form.specs.Form.{Form}
 use Rattle.parsing.proofs.Accepted as Accepted
 use Rattle.table.specs.Tables.{nameOf, noName}
-use Rattle.book.specs.Answers.{numberOf}
+use Rattle.book.specs.Answers.{numberOf, placeOf}
+use Rattle.book.specs.declared.ReadingAnswer.{ReadingAnswer}
+use Rattle.book.specs.declared.ReadingAnswer.the-variants as Answer
+use Rattle.fault.specs.Rules.{Rules}
+use Rattle.least.proofs.Refused.{refused}
 use Rattle.book.specs.Books.{reading}
 use Rattle.book.proofs.Bench as Bench
 use Rattle.blocks.specs.BookBlock.{bookIn}
@@ -81,3 +87,33 @@ unfolding readLeft
 refused-zeros text h =
     let (_, b, e) = Bench.refusal-book text h in
     rw (ne-eqb (numberOf (reading text .answer)) 0 h) (refl, b, e)
+
+-- number and place by the rules for texts; 0 just where the text is of the stated form, and then place 0 and the counts of the book's own positions
+pub read-rules : (text : Bytes) → isBytes text ≡ true → Rules text (readLeft text .place) (readLeft text .number)
+unfolding readLeft
+read-rules text lent = refused text lent
+
+pub read-accepts : (text : Bytes) → (readLeft text .number ≡ 0) ↔ ((d : Declarations) × (r : Regex) × Form text d r)
+unfolding readLeft
+read-accepts text = Bench.accepted text
+
+no-place-beside : (a : ReadingAnswer) → numberOf a ≡ 0 → placeOf a ≡ 0
+no-place-beside Answer.Accepted h = refl
+no-place-beside Answer.TooLong h = absurd (omega (arith, h))
+no-place-beside (Answer.BadLine p) h = absurd (omega (arith, h))
+no-place-beside (Answer.AboveLimit p) h = absurd (omega (arith, h))
+no-place-beside (Answer.Redeclared p) h = absurd (omega (arith, h))
+no-place-beside (Answer.Undeclared p) h = absurd (omega (arith, h))
+no-place-beside (Answer.BadPattern p) h = absurd (omega (arith, h))
+no-place-beside (Answer.EmptyWord p) h = absurd (omega (arith, h))
+no-place-beside (Answer.Unbound p) h = absurd (omega (arith, h))
+
+pub read-counts : (text : Bytes) → readLeft text .number ≡ 0 → let b = bookIn (readLeft text .book) in
+    (readLeft text .place ≡ 0) × (readLeft text .begins ≡ length (keep (λ p. bit p (b .begins)) (numbers 1 (b .positions))))
+    × (readLeft text .ends ≡ length (keep (λ p. bit p (b .ends)) (numbers 1 (b .positions))))
+unfolding readLeft
+read-counts text h =
+    let (d, r, f) = Bench.accepted text .0 h in
+    let (begins, ends) = Bench.counted-bits text d r f in
+    let place = no-place-beside (reading text .answer) h in
+    rw (read-back text h) (place, begins, ends)

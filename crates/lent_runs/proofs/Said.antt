@@ -1,6 +1,6 @@
 -- The words of the lent calls, each with its text: what stands where in a block, for any words, and what the calls hand back and leave. So that
 -- a layout, or what a call leaves, cannot be another one than is stated here and in bindings/c/watch.h.
-use mathlib.Core.Path.{_≡_, refl, sym, ap, ap₂, _∙_}
+use mathlib.Core.Path.{_≡_, refl, ap, ap₂, _∙_}
 use mathlib.Core.Bool.{Bool, true, false, cond, not}
 use mathlib.Core.List.{List, [], _∷_, _++_, map}
 use Prim.Native.Nat.{ℕ, _+_, _-_, _*_, _<_}
@@ -8,7 +8,7 @@ use native.Mathlib.Omega.{arith}
 use borrow.Author.Tests.{eq-eqb, ne-eqb}
 use lib.Dec.{eqb}
 use lib.ListN.{length, getD, take, drop, replicate, length-take, length-drop}
-use lib.Seq.{ext-getD, length-take-le, getD-take, getD-drop}
+use lib.Seq.{length-take-le, getD-take, getD-drop}
 use Rattle.laws.specs.Lists.{all, keep, gather}
 use Rattle.laws.specs.Parts.{pad}
 use Rattle.laws.proofs.Parts.{pad-at}
@@ -17,8 +17,8 @@ use Rattle.meaning.specs.Labels.{bound, free}
 use Rattle.form.specs.Text.{Bytes, isBytes}
 use Rattle.record.specs.Records.{eventIn}
 use Rattle.table.specs.declared.Symbol.{Symbol}
-use Rattle.slot.specs.Slots.{slotOf}
-use Rattle.disjunct.specs.Disjuncts.{viewDisjunct}
+use Rattle.slot.specs.Slots.{viewSlot, slotOf}
+use Rattle.disjunct.specs.Disjuncts.{viewDisjunct, disjunctOf}
 use Rattle.book.specs.declared.Book.{Book}
 use Rattle.book.specs.Answers as Reading
 use Rattle.book.specs.Books.{reading, emptyBook}
@@ -36,15 +36,12 @@ use Rattle.blocks.specs.TallyBlock.{tallySize, tallyIn, tallyWords}
 use Rattle.blocks.specs.Lent.{readLeft, eventLeft}
 use Rattle.blocks.proofs.Groups.{made-at}
 use Rattle.lent_runs.specs.Lending.{LentCall, LentMade, lentBytes, lending, lentRun, lentAccepted, lentRecords, lentTrace, lentAs}
-use Rattle.lent_runs.proofs.Damage.{word-of, held-at}
+use Rattle.lent_runs.proofs.Damage.{held-at}
+use Rattle.lent_runs.proofs.Places.{word-of, part-word, seven}
 
 -- the numbers of the layouts, and how many words a book, a state and a tally have
 pub sizes-said : (Books.bookLayout ≡ 1001) × (Books.bookSize ≡ 269) × (States.stateLayout ≡ 2001) × (States.stateSize ≡ 3715) × (tallySize ≡ 3)
 sizes-said = (refl, refl, refl, refl, refl)
-
--- the word j of a group of k that begins at `at` in the part from `from` on
-part-word : (k at from : ℕ) (w : List ℕ) (j n : ℕ) → j < k → from + (at + j) ≡ n → getD (take k (drop at (drop from w))) j 0 ≡ getD w n 0
-part-word k at from w j n h e = word-of k at (drop from w) j h ∙ getD-drop from w (at + j) 0 ∙ ap (λ m. getD w m 0) e
 
 -- A book's block of this layout.
 module _ (w : List ℕ) (layout : getD w 0 0 ≡ 1001) where
@@ -108,20 +105,6 @@ slot-said g = (λ e. rw e, λ n. rw (ne-eqb (getD g 0 0) 7 n))
 
 -- A state's block of this layout.
 module _ (w : List ℕ) (layout : getD w 0 0 ≡ 2001) where
-  -- the seven words of a variable
-  seven : (i v : ℕ) → i < 128 → v < 4 → length w ≡ 3715 → take 7 (drop (7 * v) (take 28 (drop (28 * i) (drop 131 w)))) ≡ take 7 (drop (131 + 28 * i + 7 * v) w)
-  seven i v k u long =
-      let group = take 28 (drop (28 * i) (drop 131 w)) in
-      let at = 131 + 28 * i + 7 * v in
-      let behind : length (drop (28 * i) (drop 131 w)) ≡ 3584 - 28 * i =
-      length-drop (28 * i) (drop 131 w) ∙ ap (λ n. n - 28 * i) (length-drop 131 w ∙ omega arith) in
-      let wide : length group ≡ 28 = length-take-le 28 (drop (28 * i) (drop 131 w)) (omega arith) in
-      let left : length (take 7 (drop (7 * v) group)) ≡ 7 = length-take-le 7 (drop (7 * v) group) (omega (arith, length-drop (7 * v) group)) in
-      let right : length (take 7 (drop at w)) ≡ 7 = length-take-le 7 (drop at w) (omega (arith, length-drop at w)) in
-      ext-getD 0 (take 7 (drop (7 * v) group)) (take 7 (drop at w)) (left ∙ sym right) λ j h.
-      word-of 7 (7 * v) group j (omega arith) ∙ part-word 28 (28 * i) 131 w (7 * v + j) (at + j) (omega arith) (omega arith)
-      ∙ sym (word-of 7 at w j (omega arith))
-
   abbrev s : State
   s = stateIn w
 
@@ -145,7 +128,7 @@ module _ (w : List ℕ) (layout : getD w 0 0 ≡ 2001) where
       rw state-is (
         pad-at 128 0 (take n first) i 0 (omega (arith, length-take n first)) ∙ getD-take n first i 0 h ∙ getD-take 128 (drop 3 w) i 0 k ∙ getD-drop 3 w i 0,
         λ v u.
-            ap (λ d. getD (d .vars) v (slotIn [])) (held-at w i v h k u) ∙ made-at slotIn 7 4 group v u ∙ ap slotIn (seven i v k u long),
+            ap (λ d. getD (d .vars) v (slotIn [])) (held-at w i v h k u) ∙ made-at slotIn 7 4 group v u ∙ ap slotIn (seven w i v k u long),
       )
 
 pub no-state-said : (w : List ℕ) → (getD w 0 0 ≡ 2001 → ⊥) → stateIn w ≡ stateOf (record { number = 1000001; held = [] })
@@ -173,6 +156,11 @@ pub state-words-said : (s : State)
     → stateWords s ≡ 2001 ∷ s .number ∷ s .count ∷ [] ++ s .positions ++ gather (λ d. gather entryWords (viewDisjunct d)) (s .pool)
 unfolding stateWords groupWords
 state-words-said s = refl
+
+-- what `watch_fresh` writes: the number of the layout, and zeros
+pub fresh-words-said : stateWords freshState ≡ 2001 ∷ replicate 3714 0
+unfolding stateWords freshState stateOf groupWords viewDisjunct disjunctOf viewSlot slotOf pad
+fresh-words-said = refl
 
 pub tally-words-said : (t : Tally) → tallyWords t ≡ t .accepted ∷ t .refused ∷ t .rows ∷ []
 unfolding tallyWords

@@ -1,12 +1,15 @@
 -- A lent call is a call by value over what the words say, and a run of lent calls a run of those: for any words of the stated length. For the demands.
-use mathlib.Core.Path.{_≡_, refl, sym, ap, ap₂, _∙_}
+use mathlib.Core.Path.{_≡_, refl, sym, ap, ap₂, subst, _∙_}
 use mathlib.Core.Bool.{Bool, true, false, cond, false≢true}
-use mathlib.Core.List.{List, [], _∷_, map}
+use mathlib.Core.List.{List, [], _∷_, map, List·Memᴰ, List·Memᴰ·head, List·Memᴰ·tail, List·Memᴰ·not-nil}
 use Prim.Native.Nat.{ℕ}
+use native.Mathlib.Omega.{arith}
 use lib.Dec.{eqb}
 use lib.ListN.{length}
 use Rattle.laws.proofs.Lists.{and-true-split}
-use Rattle.runs.specs.Runs.{resultsFrom}
+use Rattle.runs.specs.Runs.{resultsFrom, Within}
+use Rattle.runs.proofs.Runs.{within-mem}
+use Rattle.meaning.specs.Labels.{fresh}
 use Rattle.form.specs.Text.{isBytes}
 use Rattle.book.specs.declared.Book.{Book}
 use Rattle.state.specs.declared.State.{State}
@@ -15,14 +18,14 @@ use Rattle.calls.specs.declared.EventAnswer.{EventAnswer}
 use Rattle.calls.specs.declared.EventAnswer.the-variants.{Accepted, Unsound, OutOfForm, TooMany, NoRoom, NoSpace}
 use Rattle.calls.specs.declared.Taken.{Taken}
 use Rattle.calls.specs.Answers.{numberOf}
-use Rattle.calls.specs.Calls.{isAccepted, taken, bufferAfter}
-use Rattle.calls.specs.Runs.{Call, event, Made, make, runFrom}
+use Rattle.calls.specs.Calls.{isAccepted, freshState, taken, bufferAfter}
+use Rattle.calls.specs.Runs.{Lent, Call, event, allBytes, Made, make, runFrom, runOf}
 use Rattle.demands.proofs.Checks.{zero-accepted, accepted-zero, book-stays, refused-stays}
 use Rattle.blocks.specs.BookBlock.{bookIn}
-use Rattle.blocks.specs.StateBlock.{stateIn, stateStored}
+use Rattle.blocks.specs.StateBlock.{stateIn, stateWords, stateStored}
 use Rattle.blocks.specs.TallyBlock.{tallyIn, tallyWords}
 use Rattle.blocks.specs.Lent.{EventLeft, eventLeft}
-use Rattle.blocks.proofs.States.{stored-back, stored-length}
+use Rattle.blocks.proofs.States.{Canonical, canonical-of, state-back, state-length, stored-back, stored-length}
 use Rattle.blocks.proofs.Tallies.{tally-back}
 use Rattle.lent_runs.specs.Lending.{LentCall, LentMade, lentBytes, lending, lentAs}
 use Rattle.lent_runs.proofs.Accepted.{canonical-after}
@@ -104,3 +107,37 @@ run-seen w s long (c ∷ cs) h =
     let (state, size) = state-seen w s long c here in
     let next = eventLeft w s (c .bytes) (c .buffer) (c .place) (c .tally) .state in
     ap₂ _∷_ (call-seen w s long c here) (run-seen w next size cs rest ∙ ap (λ z. runFrom (bookIn w) z (calls cs)) state)
+
+-- Every state that a run of calls by value reaches from one that its words tell is one that its words tell; the fresh state is one.
+pub fresh-canonical : Canonical freshState
+unfolding freshState
+fresh-canonical = canonical-of fresh (omega arith) (λ h m. absurd (List·Memᴰ·not-nil m))
+
+module _ (b : Book) where
+  canonical-next : (s : State) → Canonical s → (l : Lent) → isBytes (l .bytes) ≡ true → Canonical (make b s (event l) .taken .state)
+  unfolding make
+  canonical-next s c l here = go (isAccepted (r .answer)) refl
+    where
+      r : Taken
+      r = taken b s (l .bytes) (l .buffer) (l .place) (l .tally)
+
+      go : (z : Bool) → isAccepted (r .answer) ≡ z → Canonical (r .state)
+      go true e = canonical-after b s (l .bytes) here (l .buffer) (l .place) (l .tally) (zero-accepted (r .answer) e)
+      go false e =
+          let no : numberOf (r .answer) ≡ 0 → ⊥ = λ n. false≢true (sym e ∙ accepted-zero (r .answer) n) in
+          subst Canonical (sym (refused-stays b s (l .bytes) (l .buffer) (l .place) (l .tally) no .0)) c
+
+  reached : (s : State) → Canonical s → (cs : List Call) → allBytes cs ≡ true → (m : Made) → List·Memᴰ m (runFrom b s cs) → Canonical (m .taken .state)
+  reached s c [] h m k = absurd (List·Memᴰ·not-nil k)
+  reached s c (event l ∷ cs) h m (List·Memᴰ·head e) =
+      subst (λ m. Canonical (m .taken .state)) (sym e) (canonical-next s c l (and-true-split (isBytes (l .bytes)) (allBytes cs) h .0))
+  reached s c (event l ∷ cs) h m (List·Memᴰ·tail k) =
+      let (here, rest) = and-true-split (isBytes (l .bytes)) (allBytes cs) h in
+      reached (make b s (event l) .taken .state) (canonical-next s c l here) cs rest m k
+
+  -- so the words of every reached state are read back as it
+  pub reached-back : (cs : List Call) → allBytes cs ≡ true → (k : ℕ) (m : Made) → Within (runOf b cs) k m
+      → (stateIn (stateWords (m .taken .state)) ≡ m .taken .state) × (length (stateWords (m .taken .state)) ≡ 3715)
+  reached-back cs h k m w =
+      let c = reached freshState fresh-canonical cs h m (within-mem w) in
+      (state-back (m .taken .state) c, state-length (m .taken .state) c)

@@ -1,18 +1,18 @@
 -- What an accepted event leaves in the state's words, whatever they were: word by word (`accepted-words`).
 use mathlib.Core.Path.{_≡_, refl, sym, ap, ap₂, _∙_}
 use mathlib.Core.Bool.{Bool, true, false}
-use mathlib.Core.List.{List, [], _∷_, _++_, map, List·Memᴰ}
+use mathlib.Core.List.{List, [], _∷_, _++_, map, append-nil, List·Memᴰ}
 use Prim.Native.Nat.{ℕ, zero, suc, _+_, _-_, _*_, _≤_, _<_, min, max}
 use native.Mathlib.Nat.{mul-comm, mul-add}
 use native.Mathlib.Omega.{arith}
-use borrow.Author.Tests.{eqb-true, eqb-false, eq-eqb}
-use lib.Dec.{eqb}
+use borrow.Author.Tests.{leb-true, eqb-true, eqb-false, eq-eqb}
+use lib.Dec.{eqb, leb}
 use lib.ListN.{length, getD, take, drop, replicate, length-map, length-take, length-drop, List·getD-map, List·getD-append}
 use lib.Seq.{length-take-le, getD-take, getD-drop, getD-append-add, drop-drop, drop-append-add}
 use Rattle.laws.specs.Lists.{gather}
 use Rattle.laws.specs.Parts.{front, pad}
-use Rattle.laws.proofs.Lists.{mem-take}
-use Rattle.laws.proofs.Parts.{pad-at, pad-beyond}
+use Rattle.laws.proofs.Lists.{all-at, mem-take, mem-getD}
+use Rattle.laws.proofs.Parts.{pad-length, pad-at, pad-beyond, all-pad}
 use Rattle.laws.proofs.Fronts.{gather-length, front-length, front-within, front-behind}
 use Rattle.form.specs.Text.{Bytes, isBytes}
 use Rattle.record.specs.Records.{eventIn}
@@ -20,7 +20,7 @@ use Rattle.book.specs.declared.Book.{Book}
 use Rattle.book.specs.Books.{viewBook}
 use Rattle.calls.specs.Calls.{taken}
 use Rattle.demands.proofs.Checks.{accepted-zero, accepted-leaves}
-use Rattle.meaning.specs.Labels.{Entry, free, Held, heldAt, State, newHeld}
+use Rattle.meaning.specs.Labels.{Entry, free, exclusions, Held, heldAt, State, newHeld}
 use Rattle.meaning.specs.Room.{fewExclusions}
 use Rattle.disjunct.specs.Disjuncts.{disjunctOf}
 use Rattle.disjunct.proofs.Disjuncts.{view-disjunct}
@@ -31,9 +31,10 @@ use Rattle.blocks.specs.StateBlock.{entryWords, groupWords, stateHeld, stateIn,
 use Rattle.blocks.specs.TallyBlock.{tallyIn}
 use Rattle.blocks.specs.Lent.{eventLeft}
 use Rattle.blocks.proofs.Groups.{groups-at, groups-gather}
-use Rattle.blocks.proofs.States.{Canonical, canonical-of, pool-long, positions-long, each-place, stored-parts, stored-length, stored-head}
+use Rattle.blocks.proofs.States.{entry-length, Canonical, canonical-of, pool-long, positions-long, each-place, stored-parts, stored-length, stored-head}
 use Rattle.lent_runs.specs.Stored.{groupAt, heldNumber, StoredWords}
-use Rattle.lent_runs.proofs.Accepted.{few-after, each-after}
+use Rattle.lent_runs.proofs.Accepted.{few-after, each-after, wide-after}
+use Rattle.lent_runs.proofs.Places.{seven}
 use Rattle.lent_runs.proofs.Checks.{other-state}
 
 -- an element that is there is none by default
@@ -130,9 +131,51 @@ module _ (w : List ℕ) (long : length w ≡ 3715) (p : State) (few : length (p 
   unfolding pad
   free-words = disjunct-words []
 
-  pub stored-words : StoredWords (p .number) (p .held) (getD w 2 0) w after
+  -- what is held
+  held-group : (i : ℕ) → i < length (p .held) → groupAt after i ≡ gather entryWords (pad 4 (free []) (heldNumber (p .held) i .disjunct))
   unfolding stateOf
-  stored-words =
+  held-group i h =
+      let held = p .held in
+      group-in i (omega arith) (omega arith)
+      ∙ ap groupWords
+      (pad-at 128 (disjunctOf []) (map (λ h. disjunctOf (h .disjunct)) held) i (disjunctOf [])
+      (omega (arith, length-map held (λ h. disjunctOf (h .disjunct))))
+      ∙ List·getD-map (λ h. disjunctOf (h .disjunct)) held i (heldAt 0 []))
+      ∙ disjunct-words (heldNumber held i .disjunct)
+
+  -- the seven words of a variable that the disjunct does not have
+  module _ (i v : ℕ) (h : i < length (p .held)) (behind : length (heldNumber (p .held) i .disjunct) ≤ v) (u : v < 4) where
+    abbrev D : List Entry
+    D = heldNumber (p .held) i .disjunct
+
+    abbrev E : List Entry
+    E = pad 4 (free []) D
+
+    there : (length D ≤ 4) × (fewExclusions D ≡ true)
+    there = each (heldNumber (p .held) i) (mem-getD (p .held) i (heldAt 0 []) h)
+
+    E-long : length E ≡ 4
+    E-long = pad-length 4 (free []) D (there .0)
+
+    E-six : (x : Entry) → List·Memᴰ x E → length (entryWords x) ≡ 7
+    E-six x m =
+        entry-length x
+        (leb-true (length (exclusions x)) 6 (all-at _ (all-pad (λ x. leb (length (exclusions x)) 6) 4 (free []) D refl (there .1)) m))
+
+    variable-zero : groupAt after i ≡ gather entryWords E → take 7 (drop (131 + 28 * i + 7 * v) after) ≡ replicate 7 0
+    unfolding pad
+    variable-zero group =
+        sym (seven after i v (omega arith) u (stored-length w long s can))
+        ∙ ap (λ g. take 7 (drop (7 * v) g)) (ap (take 28) (drop-drop (28 * i) 131 after) ∙ group ∙ sym (append-nil (gather entryWords E)))
+        ∙ sym (groups-at 7 (length E) (gather entryWords E ++ []) v (omega (arith, E-long)))
+        ∙ ap (λ gs. getD gs v []) (groups-gather entryWords 7 E E-six [])
+        ∙ any-default (map entryWords E) v [] (entryWords (free [])) (rw length-map (omega (arith, E-long)))
+        ∙ List·getD-map entryWords E v (free []) ∙ ap entryWords (pad-beyond 4 (free []) D v (free []) behind u)
+
+  pub stored-words : (variables : ℕ) → ((h : Held) → List·Memᴰ h (p .held) → length (h .disjunct) ≡ variables)
+      → StoredWords variables (p .number) (p .held) (getD w 2 0) w after
+  unfolding stateOf
+  stored-words variables wide =
       let held = p .held in
       record {
         size = stored-length w long s can;
@@ -141,13 +184,10 @@ module _ (w : List ℕ) (long : length w ≡ 3715) (p : State) (few : length (p 
             position-in i (omega arith) (omega arith)
             ∙ pad-at 128 0 (map (λ h. h .position) held) i 0 (omega (arith, length-map held (λ h. h .position)))
             ∙ List·getD-map (λ h. h .position) held i (heldAt 0 []);
-        groups = λ i h.
-            group-in i (omega arith) (omega arith)
-            ∙ ap groupWords
-            (pad-at 128 (disjunctOf []) (map (λ h. disjunctOf (h .disjunct)) held) i (disjunctOf [])
-            (omega (arith, length-map held (λ h. disjunctOf (h .disjunct))))
-            ∙ List·getD-map (λ h. disjunctOf (h .disjunct)) held i (heldAt 0 []))
-            ∙ disjunct-words (heldNumber held i .disjunct);
+        groups = λ i h. held-group i h;
+        beyond = λ i v h k u.
+            let size = wide (heldNumber held i) (mem-getD held i (heldAt 0 []) h) in
+            variable-zero i v h (omega arith) u (held-group i h);
         freed = λ i h k u. (
           position-in i (omega arith) u ∙ pad-beyond 128 0 (map (λ h. h .position) held) i 0 (omega (arith, length-map held (λ h. h .position))) u,
           group-in i (omega arith) u
@@ -183,7 +223,7 @@ module _ (w s : List ℕ) (long : length s ≡ 3715) (bytes : Bytes) (lent : isB
   unfolding stateIn stateHeld
   number-word = rw (eq-eqb (getD s 0 0) 2001 layout)
 
-  pub accepted-words : StoredWords (suc (getD s 1 0)) (newHeld (viewBook b) (heldFirst (b .variables) (stateIn s)) (eventIn bytes)) (getD s 2 0) s
+  pub accepted-words : StoredWords (b .variables) (suc (getD s 1 0)) (newHeld (viewBook b) (heldFirst (b .variables) (stateIn s)) (eventIn bytes)) (getD s 2 0) s
       (eventLeft w s bytes buffer place t .state)
   unfolding eventLeft
   accepted-words =
@@ -193,4 +233,5 @@ module _ (w s : List ℕ) (long : length s ≡ 3715) (bytes : Bytes) (lent : isB
       let each = each-after b (stateIn s) bytes lent buffer place (tallyIn t) zero in
       let held = newHeld (viewBook b) (heldFirst (b .variables) (stateIn s)) (eventIn bytes) in
       rw (accepted-zero (r .answer) zero, e, ← number-word)
-      (stored-words s long (record { number = suc (stateIn s .number); held = held }) few each)
+      (stored-words s long (record { number = suc (stateIn s .number); held = held }) few each (b .variables)
+      (wide-after b (stateIn s) bytes lent buffer place (tallyIn t) zero))

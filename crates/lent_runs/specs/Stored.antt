@@ -17,13 +17,15 @@ groupAt w i = take 28 (drop (131 + 28 * i) w)
 abbrev pub heldNumber : List Held → ℕ → Held
 heldNumber held i = getD held i (heldAt 0 [])
 
--- `after` is a block that held `old` disjuncts, with the state stored in it that has this event number and holds this
-pub record StoredWords (number : ℕ) (held : List Held) (old : ℕ) (before after : List ℕ) : Type 0 where
+-- `after` is a block that held `old` disjuncts, with the state stored in it that has this event number and holds this, for a book of so many variables
+pub record StoredWords (variables number : ℕ) (held : List Held) (old : ℕ) (before after : List ℕ) : Type 0 where
   pub size : length after ≡ 3715
   pub head : (getD after 0 0 ≡ 2001) × (getD after 1 0 ≡ number) × (getD after 2 0 ≡ length held)
-  -- what is held: its position, and four variables, those beyond the book's free without exclusions, which is seven zeros
+  -- what is held: its position, and four variables
   pub positions : (i : ℕ) → i < length held → getD after (3 + i) 0 ≡ heldNumber held i .position
   pub groups : (i : ℕ) → i < length held → groupAt after i ≡ gather entryWords (pad 4 (free []) (heldNumber held i .disjunct))
+  -- "variables beyond the book's zero"
+  pub beyond : (i v : ℕ) → i < length held → variables ≤ v → v < 4 → take 7 (drop (131 + 28 * i + 7 * v) after) ≡ replicate 7 0
   -- "groups from the new to the old count become zero"
   pub freed : (i : ℕ) → length held ≤ i → i < old → i < 128 → (getD after (3 + i) 0 ≡ 0) × (groupAt after i ≡ replicate 28 0)
   -- "later ones stay as they came"

@@ -1,7 +1,5 @@
 // The lent calls from Rattle, for a caller to copy: book B1 is read, document 01's six events are taken one by one, and their rows are printed.
-// The program keeps all memory: the words of book, state and tally, and the row buffer. A row is 24 bytes, its values little-endian at 8 and 12.
-ghost use Prim.Native.Nat.{_<_, _≤_};
-
+// The program keeps all memory: the words of book, state and tally, and a buffer for one row, 24 bytes.
 fn print(word: &[u8], number: u64) {
     io::write_all(1, word);
     io::print_decimal(1, number);
@@ -11,48 +9,27 @@ fn wide(x: u8) -> u64 {
     x as u64
 }
 
-fn value(rows: &[u8; 240], at: usize) -> u64
-    requires { ⌜ at < 237 ⌝ }
-{
-    wide(rows[at]) | wide(rows[at + 1]) << 8 | wide(rows[at + 2]) << 16 | wide(rows[at + 3]) << 24
-}
-
-// At most ten rows fit the buffer.
-fn at_most_ten(count: usize) -> usize
-    ensures { λ r. ⌜ r ≤ 10 ⌝ }
-{
-    if count < 10 { count } else { 10 }
-}
-
-fn print_rows(rows: &[u8; 240], count: usize, event: u64) {
-    let n = at_most_ten(count);
-    let mut i: usize = 0;
-    while i < n {
-        print(b"event ", event);
-        print(b": row ", value(rows, i * 24 + 8));
-        print(b" ", value(rows, i * 24 + 12));
-        io::write_all(1, b"\n");
-        i += 1;
-    }
-}
-
-// One event: its kind, its argument count, and two arguments, which here fit a byte.
+// One event: its kind, its argument count, and two arguments, which here fit a byte; so do the values of a row, at 8 and 12.
 fn take(
     book: &[u32; lent::BOOK_WORDS],
     state: &mut [u32; lent::STATE_WORDS],
     tally: &mut [u64; lent::TALLY_WORDS],
-    event: u64,
-    record: [u8; 4],
+    event: [u8; 4],
 ) {
-    let mut bytes = [0u8; 20];
-    bytes[0] = record[0];
-    bytes[1] = record[1];
-    bytes[4] = record[2];
-    bytes[8] = record[3];
-    let mut rows = [0u8; 240];
+    let mut record = [0u8; 20];
+    record[0] = event[0];
+    record[1] = event[1];
+    record[4] = event[2];
+    record[8] = event[3];
+    let mut row = [0u8; 24];
     let mut count: usize = 0;
-    lent::watch_event(book, state, &bytes, &mut rows, 0, tally, &mut count);
-    print_rows(&rows, count, event);
+    let answer = lent::watch_event(book, state, &record, &mut row, 0, tally, &mut count);
+    if answer == 0 && count == 1 {
+        print(b"event ", wide(row[0]));
+        print(b": row ", wide(row[8]));
+        print(b" ", wide(row[12]));
+        io::write_all(1, b"\n");
+    }
 }
 
 fn main() {
@@ -63,14 +40,15 @@ fn main() {
     let mut place: usize = 0;
     let mut begins: usize = 0;
     let mut ends: usize = 0;
-    lent::watch_read(text, &mut book, &mut place, &mut begins, &mut ends);
-    lent::watch_fresh(&mut state);
-    take(&book, &mut state, &mut tally, 1, [1, 2, 1, 7]);
-    take(&book, &mut state, &mut tally, 2, [1, 2, 2, 8]);
-    take(&book, &mut state, &mut tally, 3, [2, 1, 1, 0]);
-    take(&book, &mut state, &mut tally, 4, [3, 1, 2, 0]);
-    take(&book, &mut state, &mut tally, 5, [2, 1, 2, 0]);
-    take(&book, &mut state, &mut tally, 6, [2, 1, 1, 0]);
+    if lent::watch_read(text, &mut book, &mut place, &mut begins, &mut ends) == 0 {
+        lent::watch_fresh(&mut state);
+        take(&book, &mut state, &mut tally, [1, 2, 1, 7]);
+        take(&book, &mut state, &mut tally, [1, 2, 2, 8]);
+        take(&book, &mut state, &mut tally, [2, 1, 1, 0]);
+        take(&book, &mut state, &mut tally, [3, 1, 2, 0]);
+        take(&book, &mut state, &mut tally, [2, 1, 2, 0]);
+        take(&book, &mut state, &mut tally, [2, 1, 1, 0]);
+    }
     print(b"accepted ", tally[0]);
     print(b", rows ", tally[2]);
     io::write_all(1, b"\n");
