@@ -1,5 +1,5 @@
--- For any words, reached by a run or not: the number that a lent event call hands back is that of the first check that fails, a refusal leaves all but the
--- refused counter, an acceptance the rows and the tally, and a block of another layout is unsound, as are a count over 128, a code above 7 and a tag out of range.
+-- For any words, reached by a run or not: the number that a lent event call hands back is that of the first check that fails, a refusal leaves all
+-- but the refused counter, an acceptance the rows and the tally, and a block of another layout is unsound. Words out of range are in Damage.
 use mathlib.Core.Path.{_≡_, refl, ap}
 use mathlib.Core.Bool.{false, cond, and-false}
 use mathlib.Core.List.{List}

@@ -15,7 +15,8 @@ pub part-word : (k at from : ℕ) (w : List ℕ) (j n : ℕ) → j < k → from 
 part-word k at from w j n h e = word-of k at (drop from w) j h ∙ getD-drop from w (at + j) 0 ∙ ap (λ m. getD w m 0) e
 
 -- the seven words of a variable
-pub seven : (w : List ℕ) (i v : ℕ) → i < 128 → v < 4 → length w ≡ 3715 → take 7 (drop (7 * v) (take 28 (drop (28 * i) (drop 131 w)))) ≡ take 7 (drop (131 + 28 * i + 7 * v) w)
+pub seven : (w : List ℕ) (i v : ℕ) → i < 128 → v < 4 → length w ≡ 3715
+    → take 7 (drop (7 * v) (take 28 (drop (28 * i) (drop 131 w)))) ≡ take 7 (drop (131 + 28 * i + 7 * v) w)
 seven w i v k u long =
     let group = take 28 (drop (28 * i) (drop 131 w)) in
     let at = 131 + 28 * i + 7 * v in

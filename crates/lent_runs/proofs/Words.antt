@@ -223,7 +223,8 @@ module _ (w s : List ℕ) (long : length s ≡ 3715) (bytes : Bytes) (lent : isB
   unfolding stateIn stateHeld
   number-word = rw (eq-eqb (getD s 0 0) 2001 layout)
 
-  pub accepted-words : StoredWords (b .variables) (suc (getD s 1 0)) (newHeld (viewBook b) (heldFirst (b .variables) (stateIn s)) (eventIn bytes)) (getD s 2 0) s
+  pub accepted-words : StoredWords (b .variables) (suc (getD s 1 0)) (newHeld (viewBook b) (heldFirst (b .variables) (stateIn s)) (eventIn bytes))
+      (getD s 2 0) s
       (eventLeft w s bytes buffer place t .state)
   unfolding eventLeft
   accepted-words =
