@@ -7,3 +7,4 @@ pub mod Demands
 pub mod Checks
 pub mod Damage
 pub mod Words
+pub mod Anchors
