@@ -25,7 +25,7 @@ use Rattle.book.specs.Books.{emptyBook, readingFor, bookFor}
 use Rattle.state.specs.declared.State.{State}
 use Rattle.state.specs.States.{stateOf}
 use Rattle.tally.specs.Tallies.{tallied}
-use Rattle.calls.specs.Calls.{isAccepted, answerTo, taken, bufferAfter}
+use Rattle.calls.specs.Calls.{freshState, isAccepted, answerTo, taken, bufferAfter}
 use Rattle.blocks.specs.BookBlock.{bookLayout, namesFrom, tableFrom, occurrencesFrom, followsFrom, bookSize}
 use Rattle.blocks.specs.BookBlock.{nameIn, parameterIn, symbolIn, bookHeld, bookIn, bookWords}
 use Rattle.blocks.specs.StateBlock.{stateLayout, positionsFrom, poolFrom, stateSize}
@@ -132,6 +132,11 @@ pub one-stored : (stateStored (2001 ∷ 8 ∷ 2 ∷ numbers 3 3712) one ≡ 2001
     × (stateWords one ≡ 2001 ∷ 9 ∷ 1 ∷ 5 ∷ replicate 127 0 ++ (oneGroup ++ replicate 3556 0))
 unfolding stateStored stateWords stateOf splice front pad groupWords viewDisjunct disjunctOf viewSlot slotOf
 one-stored = (refl, refl, refl)
+
+-- the words of a fresh state
+pub fresh-words : stateWords freshState ≡ 2001 ∷ replicate 3714 0
+unfolding stateWords freshState stateOf pad groupWords viewDisjunct disjunctOf viewSlot slotOf
+fresh-words = refl
 
 -- the counters
 pub own-tally : (tallyIn (1 ∷ 2 ∷ 3 ∷ []) ≡ record { accepted = 1; refused = 2; rows = 3 }) × (tallyWords (record { accepted = 1; refused = 2; rows = 3 }) ≡ (1 ∷ 2 ∷ 3 ∷ []))

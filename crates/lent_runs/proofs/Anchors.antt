@@ -1,13 +1,14 @@
 -- A run of lent calls, computed from the very definitions that the contracts of the lent calls cite: an event that is held, one whose row finds no space,
--- the same with space, and a record out of form. All that each leaves is given word by word and byte by byte.
+-- the same with space, and a record out of form. All that each leaves is given word by word and byte by byte. And demand 3's bytes, said apart.
 use mathlib.Core.Path.{_≡_, refl}
 use mathlib.Core.List.{List, [], _∷_, _++_, map}
-use Prim.Native.Nat.{ℕ}
+use Prim.Native.Nat.{ℕ, _+_, _*_, _<_}
 use lib.Count.{ones}
 use lib.ListN.{replicate}
 use Rattle.laws.specs.Bits.{bit, join, meet, single}
 use Rattle.laws.specs.Parts.{front, splice, pad}
-use Rattle.meaning.specs.Events.{matches, constraintOf}
+use Rattle.meaning.specs.Events.{Event, matches, constraintOf}
+use Rattle.meaning.specs.Meaning.{Tracematch}
 use Rattle.meaning.specs.Book.{soundBook, soundSymbol}
 use Rattle.meaning.specs.Labels.{compareDisjuncts, skipBy, sources, stepSet, skipSet, newLabel, newHeld}
 use Rattle.meaning.specs.Room.{setRoom, room}
@@ -26,14 +27,15 @@ use Rattle.book.specs.Answers.{answerOf}
 use Rattle.book.specs.Books.{readingFor, bookFor, emptyBook, viewBook}
 use Rattle.state.specs.States.{stateOf, heldFirst, viewState}
 use Rattle.sound.specs.Soundness.{symbolCounts, bookCounts, bookSound, slotCounts, stateCounts, stateSound}
-use Rattle.row.specs.RowBytes.{wordBytes, bytesOf, rowBytes}
+use Rattle.row.specs.RowBytes.{rowSize, wordBytes, bytesOf, rowBytes}
 use Rattle.tally.specs.Tallies.{capped, tallied}
 use Rattle.calls.specs.Calls.{freshState, rowsBy, stateBy, leavesFreeBy, roomBy, unsound, outOfForm, tooMany, noRoom, noSpace, answerTo, taken, bufferAfter}
+use Rattle.calls.specs.Runs.{behindNumber}
 use Rattle.blocks.specs.BookBlock.{nameIn, parameterIn, symbolIn, bookHeld, bookIn, bookWords}
 use Rattle.blocks.specs.StateBlock.{slotIn, disjunctIn, stateHeld, stateIn, groupWords, stateWords, stateStored}
 use Rattle.blocks.specs.TallyBlock.{tallyIn, tallyWords}
 use Rattle.blocks.specs.Lent.{readLeft, EventLeft, eventLeft}
-use Rattle.lent_runs.specs.Lending.{LentCall, lentRun}
+use Rattle.lent_runs.specs.Lending.{LentCall, LentMade, lentRun, LentAlike}
 
 -- the records of load(41) and of stop, and calls that lend 25 bytes of 255 and a tally of 5, 6 and 7
 abbrev load : Bytes
@@ -76,3 +78,8 @@ unfolding bit join meet single ones front splice pad matches constraintOf soundB
     noRoom noSpace answerTo taken bufferAfter capped tallied nameIn parameterIn symbolIn bookHeld bookIn bookWords slotIn disjunctIn stateHeld stateIn
     groupWords stateWords stateStored tallyIn tallyWords readLeft eventLeft
 run-left = refl
+
+-- of partners the rows are the same, byte by byte but for the event's number
+pub partner-bytes : (tm : Tracematch) (t u : List Event) (n k : ℕ) (a c : LentMade) → LentAlike tm t u n k a c → (i : ℕ) → i < a .left .rows
+    → behindNumber (a .lent .place + rowSize * i) (a .left .buffer) ≡ behindNumber (c .lent .place + rowSize * i) (c .left .buffer)
+partner-bytes tm t u n k a c g = g .bytes
