@@ -4,3 +4,4 @@ pub mod Groups
 pub mod Books
 pub mod States
 pub mod Tallies
+pub mod Anchors
