@@ -139,7 +139,8 @@ unfolding stateWords freshState stateOf pad groupWords viewDisjunct disjunctOf v
 fresh-words = refl
 
 -- the counters
-pub own-tally : (tallyIn (1 ∷ 2 ∷ 3 ∷ []) ≡ record { accepted = 1; refused = 2; rows = 3 }) × (tallyWords (record { accepted = 1; refused = 2; rows = 3 }) ≡ (1 ∷ 2 ∷ 3 ∷ []))
+pub own-tally : (tallyIn (1 ∷ 2 ∷ 3 ∷ []) ≡ record { accepted = 1; refused = 2; rows = 3 })
+    × (tallyWords (record { accepted = 1; refused = 2; rows = 3 }) ≡ (1 ∷ 2 ∷ 3 ∷ []))
 unfolding tallyIn tallyWords
 own-tally = (refl, refl)
 
@@ -155,8 +156,8 @@ pub read-left : (readLeft (ascii "vars d\nsym a 1 d\nsym b 2 _ =9\nmatch (a | b)
       ends = 1;
     })
     × (readLeft (ascii "vars d\nsym a 1 d\nmatch b\n") ≡ record { number = 5; book = replicate 269 0; place = 23; begins = 0; ends = 0 })
-unfolding readLeft bookWords bit join meet single ones pad soundSymbol spacesEnd wordEnd nameEnd nextWord nameFault kindOf fixedNumber wantWord kindFrom symbolFrom
-    linesOf itemOf nameAtom closed alternationFrom patternFrom lastLine matchFrom readingOf symbolOf tableOf answerOf readingFor bookFor emptyBook
+unfolding readLeft bookWords bit join meet single ones pad soundSymbol spacesEnd wordEnd nameEnd nextWord nameFault kindOf fixedNumber wantWord kindFrom
+    symbolFrom linesOf itemOf nameAtom closed alternationFrom patternFrom lastLine matchFrom readingOf symbolOf tableOf answerOf readingFor bookFor emptyBook
 read-left = (refl, refl)
 
 -- An event that is not accepted, by whichever check: no row, buffer and state as lent, one refused event more.

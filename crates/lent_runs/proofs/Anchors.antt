@@ -58,7 +58,8 @@ loaded = 2001 ∷ 1 ∷ 1 ∷ 1 ∷ replicate 127 0 ++ (7 ∷ 41 ∷ replicate 3
 abbrev stopped : List ℕ
 stopped = 2001 ∷ 2 ∷ replicate 3713 0
 
-pub run-left : map (λ m. m .left) (lentRun (ascii "vars d\nsym load 1 d\nsym stop 9\nmatch load stop\n") (call load 1 ∷ call stop 2 ∷ call stop 1 ∷ call [] 0 ∷ []))
+pub run-left : map (λ m. m .left)
+    (lentRun (ascii "vars d\nsym load 1 d\nsym stop 9\nmatch load stop\n") (call load 1 ∷ call stop 2 ∷ call stop 1 ∷ call [] 0 ∷ []))
     ≡ record { number = 0; rows = 0; buffer = replicate 25 255; tally = 6 ∷ 6 ∷ 7 ∷ []; state = loaded }
     ∷ refusal 13 loaded
     ∷ record {
