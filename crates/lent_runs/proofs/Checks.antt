@@ -3,7 +3,7 @@
 use mathlib.Core.Path.{_≡_, refl, ap}
 use mathlib.Core.Bool.{false, cond, and-false}
 use mathlib.Core.List.{List}
-use Prim.Native.Nat.{ℕ, suc}
+use Prim.Native.Nat.{ℕ, suc, _*_, _≤_}
 use borrow.Author.Tests.{ne-eqb}
 use lib.ListN.{length, getD}
 use Rattle.laws.specs.Lists.{gather}
@@ -21,7 +21,7 @@ use Rattle.sound.specs.Soundness.{bookCounts, bookSound, stateCounts, stateSoun
 use Rattle.tally.specs.Tallies.{tallied}
 use Rattle.calls.specs.Calls.{taken}
 use Rattle.calls.specs.Checks.{FirstFailing, unsoundBook, unsoundState}
-use Rattle.demands.proofs.Checks.{first-failing, refused-number, refused-stays, accepted-leaves}
+use Rattle.demands.proofs.Checks.{first-failing, refused-number, refused-stays, few-taken, accepted-leaves}
 use Rattle.blocks.specs.BookBlock.{bookIn}
 use Rattle.blocks.specs.StateBlock.{stateIn, unknownState, stateStored}
 use Rattle.blocks.specs.TallyBlock.{tallyIn, tallyWords}
@@ -62,6 +62,11 @@ module _ (w s : List ℕ) (bytes buffer : Bytes) (place : ℕ) (t : List ℕ) wh
   lent-accepted-leaves h =
       let (_, count, tally, left) = accepted-leaves (bookIn w) (stateIn s) bytes buffer place (tallyIn t) h in
       (count, ap tallyWords tally, left)
+
+  -- "at most 16 × 129 rows"
+  pub lent-few-rows : eventLeft w s bytes buffer place t .rows ≤ 16 * 129
+  unfolding eventLeft
+  lent-few-rows = few-taken (bookIn w) (stateIn s) bytes buffer place (tallyIn t)
 
   -- a book's block of another layout holds the empty book, a state's block of another layout a state above the limit of events
   pub other-book : (getD w 0 0 ≡ 1001 → ⊥) → eventLeft w s bytes buffer place t .number ≡ 9

@@ -35,6 +35,13 @@ slot-over : (g : List ℕ) → 7 < getD g 0 0 → slotCounts (slotIn g) ≡ fals
 unfolding slotCounts slotIn
 slot-over g h = rw (ne-eqb (getD g 0 0) 7 (λ e. omega arith)) (lt-leb (getD g 0 0) 6 (omega arith))
 
+-- how many places the struct has
+pub pool-size : (s : List ℕ) → length (stateHeld s .pool) ≡ 128
+unfolding stateHeld
+pool-size s =
+    let M = map disjunctIn (groups 28 128 (drop 131 s)) in
+    pad-length 128 (disjunctOf []) (take (getD s 2 0) M) (omega (arith, length-take (getD s 2 0) M, made-length disjunctIn 28 128 (drop 131 s)))
+
 -- The words of a held disjunct's variable.
 module _ (s : List ℕ) (i v : ℕ) (h : i < getD s 2 0) (k : i < 128) (u : v < 4) where
   abbrev group : List ℕ
@@ -57,9 +64,7 @@ module _ (s : List ℕ) (i v : ℕ) (h : i < getD s 2 0) (k : i < 128) (u : v < 
   counts-at n m four counts =
       let pool = stateHeld s .pool in
       let (few, each) = and-true-split (leb (getD s 2 0) 128) _ counts in
-      let M = map disjunctIn (groups 28 128 (drop 131 s)) in
-      let long : length pool ≡ 128 =
-      pad-length 128 (disjunctOf []) (take (getD s 2 0) M) (omega (arith, length-take (getD s 2 0) M, made-length disjunctIn 28 128 (drop 131 s))) in
+      let long : length pool ≡ 128 = pool-size s in
       let one = all-taken (λ d. all slotCounts (take n (d .vars))) (getD s 2 0) pool i (disjunctIn []) each (omega (arith, leb-true (getD s 2 0) 128 few)) h in
       let vars = map slotIn (groups 7 4 group) in
       let here : all slotCounts (take n vars) ≡ true = ap (λ d. all slotCounts (take n (d .vars))) (sym held-at) ∙ one in
@@ -104,36 +109,33 @@ module _ (w : List ℕ) (a j : ℕ) (h : a < getD w 2 0) (k : a < 16) (u : j < g
       (omega (arith, leb-true (getD symbol 1 0) 4 four, made-length parameterIn 2 4 (drop 2 symbol))) (rw (symbol-word 1 (omega arith)) u)
 
 module _ (w s : List ℕ) (bytes buffer : Bytes) (place : ℕ) (t : List ℕ) where
-  abbrev nine : Type 0
-  nine = eventLeft w s bytes buffer place t .number ≡ 9
-
   -- it is enough to see it of the layouts that are read, and of a sound book
-  of-state : (getD s 0 0 ≡ 2001 → stateSound (bookIn w) (stateHeld s) ≡ false) → nine
+  of-state : (getD s 0 0 ≡ 2001 → stateSound (bookIn w) (stateHeld s) ≡ false) → eventLeft w s bytes buffer place t .number ≡ 9
   unfolding stateIn
   of-state h = go (eqb (getD s 0 0) 2001) refl
     where
-      go : (z : Bool) → eqb (getD s 0 0) 2001 ≡ z → nine
+      go : (z : Bool) → eqb (getD s 0 0) 2001 ≡ z → eventLeft w s bytes buffer place t .number ≡ 9
       go true e = lent-first-failing w s bytes buffer place t .nine .1 (unsoundState (rw e (h (eqb-true (getD s 0 0) 2001 e))))
       go false e = other-state w s bytes buffer place t (eqb-false (getD s 0 0) 2001 e)
 
-  of-book : (getD w 0 0 ≡ 1001 → bookSound (bookHeld w) ≡ false) → nine
+  of-book : (getD w 0 0 ≡ 1001 → bookSound (bookHeld w) ≡ false) → eventLeft w s bytes buffer place t .number ≡ 9
   unfolding bookIn
   of-book h = go (eqb (getD w 0 0) 1001) refl
     where
-      go : (z : Bool) → eqb (getD w 0 0) 1001 ≡ z → nine
+      go : (z : Bool) → eqb (getD w 0 0) 1001 ≡ z → eventLeft w s bytes buffer place t .number ≡ 9
       go true e = lent-first-failing w s bytes buffer place t .nine .1 (unsoundBook (rw e (h (eqb-true (getD w 0 0) 1001 e))))
       go false e = other-book w s bytes buffer place t (eqb-false (getD w 0 0) 1001 e)
 
-  pub count-over : 128 < getD s 2 0 → nine
+  pub count-over : 128 < getD s 2 0 → eventLeft w s bytes buffer place t .number ≡ 9
   unfolding stateSound stateCounts stateHeld
   count-over h = of-state (λ _. rw (lt-leb (getD s 2 0) 128 h))
 
   -- a code above 7 in the words of a variable that the book has, of a disjunct that is held: never six exclusions
-  pub code-over : (i v : ℕ) → i < getD s 2 0 → i < 128 → v < bookIn w .variables → 7 < getD s (131 + 28 * i + 7 * v) 0 → nine
+  pub code-over : (i v : ℕ) → i < getD s 2 0 → i < 128 → v < bookIn w .variables → 7 < getD s (131 + 28 * i + 7 * v) 0 → eventLeft w s bytes buffer place t .number ≡ 9
   unfolding stateSound
   code-over i v h k u over = go (bookSound (bookIn w)) refl
     where
-      go : (z : Bool) → bookSound (bookIn w) ≡ z → nine
+      go : (z : Bool) → bookSound (bookIn w) ≡ z → eventLeft w s bytes buffer place t .number ≡ 9
       go false e = lent-first-failing w s bytes buffer place t .nine .1 (unsoundBook e)
       go true e = of-state (λ _. fails _ λ sound.
           let four = book-counts (bookIn w) e .0 in
@@ -143,7 +145,7 @@ module _ (w s : List ℕ) (bytes buffer : Bytes) (place : ℕ) (t : List ℕ) wh
           (sym (slot-over (slot s i v h k low) (rw (code-at s i v h k low) over)) ∙ counts-at s i v h k low (bookIn w .variables) u four counts))
 
   -- a tag above 2 in a parameter that is counted, of a symbol that is declared
-  pub tag-over : (a j : ℕ) → a < getD w 2 0 → a < 16 → j < getD w (47 + 10 * a + 1) 0 → j < 4 → 2 < getD w (47 + 10 * a + 2 + 2 * j) 0 → nine
+  pub tag-over : (a j : ℕ) → a < getD w 2 0 → a < 16 → j < getD w (47 + 10 * a + 1) 0 → j < 4 → 2 < getD w (47 + 10 * a + 2 + 2 * j) 0 → eventLeft w s bytes buffer place t .number ≡ 9
   tag-over a j h k u v over = of-book (λ _. fails (bookSound (bookHeld w)) λ sound.
       let low = leb-true (getD (tag w a j h k u v) 0 0) 2 (tag-at w a j h k u v sound) in
       omega (arith, low, tag-word w a j h k u v, over))

@@ -63,7 +63,7 @@ module _ (b : Book) (ms : List LentMade) where
   trace-seen = ap (map eventIn) records-seen
 
 -- What is told of a call by its words alone.
-pub record Backed (m : LentMade) : Type 0 where
+record Backed (m : LentMade) : Type 0 where
   pub number : numberOf (answerWith (m .left .number)) ≡ m .left .number
   pub tally : tallyWords (tallyIn (m .left .tally)) ≡ m .left .tally
   pub state : lentTaken m ≡ true → getD (m .left .state) 1 0 ≡ stateIn (m .left .state) .number
@@ -135,7 +135,7 @@ module _ (text : Bytes) (read : readLeft text .number ≡ 0) (cs : List LentCall
   calls-bytes : allBytes (calls cs) ≡ true
   calls-bytes = all-map _ _ cs ∙ bytes
 
-  pub over : map (seen b) ms ≡ runOver text (calls cs)
+  over : map (seen b) ms ≡ runOver text (calls cs)
   over =
       run-seen w (stateWords freshState) (state-length freshState fresh-canonical) cs bytes
       ∙ ap₂ (λ z s. runFrom z s (calls cs)) (read-back text read) (state-back freshState fresh-canonical)

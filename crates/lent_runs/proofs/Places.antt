@@ -1,7 +1,7 @@
 -- Words of a block by their places: the word of a group, a group in a part, the seven words of a variable. For what is said of blocks.
-use mathlib.Core.Path.{_≡_, sym, ap, _∙_}
-use mathlib.Core.List.{List}
-use Prim.Native.Nat.{ℕ, _+_, _-_, _*_, _<_}
+use mathlib.Core.Path.{_≡_, refl, sym, ap, _∙_}
+use mathlib.Core.List.{List, [], _∷_}
+use Prim.Native.Nat.{ℕ, zero, suc, _+_, _-_, _*_, _<_}
 use native.Mathlib.Omega.{arith}
 use lib.ListN.{length, getD, take, drop, length-drop}
 use lib.Seq.{ext-getD, length-take-le, getD-take, getD-drop}
@@ -28,3 +28,9 @@ seven w i v k u long =
     ext-getD 0 (take 7 (drop (7 * v) group)) (take 7 (drop at w)) (left ∙ sym right) λ j h.
     word-of 7 (7 * v) group j (omega arith) ∙ part-word 28 (28 * i) 131 w (7 * v + j) (at + j) (omega arith) (omega arith)
     ∙ sym (word-of 7 at w j (omega arith))
+
+-- an element that is there is none by default
+pub any-default : {A : Type 0} (l : List A) (i : ℕ) (a b : A) → i < length l → getD l i a ≡ getD l i b
+any-default [] i a b h = absurd (omega arith)
+any-default (x ∷ l) zero a b h = refl
+any-default (x ∷ l) (suc i) a b h = any-default l i a b (omega arith)

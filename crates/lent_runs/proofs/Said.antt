@@ -19,6 +19,8 @@ use Rattle.record.specs.Records.{eventIn}
 use Rattle.table.specs.declared.Symbol.{Symbol}
 use Rattle.slot.specs.Slots.{viewSlot, slotOf}
 use Rattle.disjunct.specs.Disjuncts.{viewDisjunct, disjunctOf}
+use Rattle.slot.specs.declared.Slot.{Slot}
+use Rattle.disjunct.specs.declared.Disjunct.{Disjunct}
 use Rattle.book.specs.declared.Book.{Book}
 use Rattle.book.specs.Answers as Reading
 use Rattle.book.specs.Books.{reading, emptyBook}
@@ -26,6 +28,8 @@ use Rattle.state.specs.declared.State.{State}
 use Rattle.state.specs.States.{stateOf}
 use Rattle.tally.specs.declared.Tally.{Tally}
 use Rattle.calls.specs.Answers.{numberOf}
+use Rattle.calls.specs.declared.EventAnswer.the-variants as Answer
+use Rattle.calls.specs.Runs.{event}
 use Rattle.calls.specs.Calls.{isAccepted, freshState, taken, bufferAfter}
 use Rattle.blocks.specs.Groups.{groups}
 use Rattle.blocks.specs.BookBlock as Books
@@ -33,64 +37,65 @@ use Rattle.blocks.specs.BookBlock.{nameIn, parameterIn, symbolIn, bookHeld, boo
 use Rattle.blocks.specs.StateBlock as States
 use Rattle.blocks.specs.StateBlock.{slotIn, disjunctIn, stateHeld, unknownState, stateIn, entryWords, groupWords, stateWords, stateStored}
 use Rattle.blocks.specs.TallyBlock.{tallySize, tallyIn, tallyWords}
-use Rattle.blocks.specs.Lent.{readLeft, eventLeft}
-use Rattle.blocks.proofs.Groups.{made-at}
+use Rattle.blocks.specs.Lent.{ReadLeft, readLeft, EventLeft, eventLeft}
+use Rattle.blocks.proofs.Groups.{made-length, made-at}
 use Rattle.lent_runs.specs.Lending.{LentCall, LentMade, lentBytes, lending, lentRun, lentAccepted, lentRecords, lentTrace, lentAs}
-use Rattle.lent_runs.proofs.Damage.{held-at}
-use Rattle.lent_runs.proofs.Places.{word-of, part-word, seven}
+use Rattle.lent_runs.proofs.Damage.{pool-size, held-at}
+use Rattle.lent_runs.proofs.Seen.{answerWith, seen, calls}
+use Rattle.lent_runs.proofs.Places.{any-default, word-of, part-word, seven}
 
 -- the numbers of the layouts, and how many words a book, a state and a tally have
 pub sizes-said : (Books.bookLayout ≡ 1001) × (Books.bookSize ≡ 269) × (States.stateLayout ≡ 2001) × (States.stateSize ≡ 3715) × (tallySize ≡ 3)
 sizes-said = (refl, refl, refl, refl, refl)
 
--- A book's block of this layout.
-module _ (w : List ℕ) (layout : getD w 0 0 ≡ 1001) where
-  abbrev b : Book
-  b = bookIn w
+-- A book's block of this layout. Words and hypotheses stand in each statement.
+book-is : (w : List ℕ) → getD w 0 0 ≡ 1001 → bookIn w ≡ bookHeld w
+unfolding bookIn
+book-is w layout = ap (λ z. cond z (bookHeld w) emptyBook) (eq-eqb (getD w 0 0) 1001 layout)
 
-  book-is : bookIn w ≡ bookHeld w
-  unfolding bookIn
-  book-is = ap (λ z. cond z (bookHeld w) emptyBook) (eq-eqb (getD w 0 0) 1001 layout)
+pub book-head-said : (w : List ℕ) → getD w 0 0 ≡ 1001 → (bookIn w .variables ≡ getD w 1 0) × (bookIn w .symbols ≡ getD w 2 0)
+    × (bookIn w .positions ≡ getD w 3 0) × (bookIn w .begins ≡ getD w 4 0) × (bookIn w .ends ≡ getD w 5 0)
+    × (bookIn w .empty ≡ not (eqb (getD w 6 0) 0))
+unfolding bookHeld
+book-head-said w layout = rw (book-is w layout) (refl, refl, refl, refl, refl, refl)
 
-  pub book-head-said : (b .variables ≡ getD w 1 0) × (b .symbols ≡ getD w 2 0) × (b .positions ≡ getD w 3 0) × (b .begins ≡ getD w 4 0)
-      × (b .ends ≡ getD w 5 0) × (b .empty ≡ not (eqb (getD w 6 0) 0))
-  unfolding bookHeld
-  book-head-said = rw book-is (refl, refl, refl, refl, refl, refl)
+-- the name i: its start and its size
+pub name-said : (w : List ℕ) → getD w 0 0 ≡ 1001 → (i : ℕ) → i < 20
+    → getD (bookIn w .names) i (record { start = 0; size = 0 }) ≡ record { start = getD w (7 + 2 * i) 0; size = getD w (8 + 2 * i) 0 }
+unfolding bookHeld nameIn
+name-said w layout i h =
+    ap (λ b. getD (b .names) i (nameIn [])) (book-is w layout) ∙ made-at nameIn 2 20 (drop 7 w) i h
+    ∙ ap₂ (λ x y. record { start = x; size = y }) (part-word 2 (2 * i) 7 w 0 (7 + 2 * i) (omega arith) (omega arith))
+    (part-word 2 (2 * i) 7 w 1 (8 + 2 * i) (omega arith) (omega arith))
 
-  -- the name i: its start and its size
-  pub name-said : (i : ℕ) → i < 20 → getD (b .names) i (record { start = 0; size = 0 }) ≡ record { start = getD w (7 + 2 * i) 0; size = getD w (8 + 2 * i) 0 }
-  unfolding bookHeld nameIn
-  name-said i h =
-      ap (λ b. getD (b .names) i (nameIn [])) book-is ∙ made-at nameIn 2 20 (drop 7 w) i h
-      ∙ ap₂ (λ x y. record { start = x; size = y }) (part-word 2 (2 * i) 7 w 0 (7 + 2 * i) (omega arith) (omega arith))
-      (part-word 2 (2 * i) 7 w 1 (8 + 2 * i) (omega arith) (omega arith))
+-- the symbol a: its kind, its count, and of each of its parameters the tag and the number; the default of `getD` is never used
+pub symbol-said : (w : List ℕ) → getD w 0 0 ≡ 1001 → (a : ℕ) → a < 16 → (none : Symbol)
+    → (getD (bookIn w .table) a none .kind ≡ getD w (47 + 10 * a) 0) × (getD (bookIn w .table) a none .count ≡ getD w (48 + 10 * a) 0)
+    × ((j : ℕ) → j < 4 → getD (getD (bookIn w .table) a none .parameters) j (record { tag = 0; number = 0 })
+    ≡ record { tag = getD w (49 + 10 * a + 2 * j) 0; number = getD w (50 + 10 * a + 2 * j) 0 })
+unfolding bookHeld symbolIn parameterIn
+symbol-said w layout a h none =
+    let g = take 10 (drop (10 * a) (drop 47 w)) in
+    let table = map symbolIn (groups 10 16 (drop 47 w)) in
+    let here : getD (bookIn w .table) a none ≡ symbolIn g =
+    ap (λ b. getD (b .table) a none) (book-is w layout) ∙ any-default table a none (symbolIn []) (omega (arith, made-length symbolIn 10 16 (drop 47 w)))
+    ∙ made-at symbolIn 10 16 (drop 47 w) a h in (
+      ap (λ y. y .kind) here ∙ part-word 10 (10 * a) 47 w 0 (47 + 10 * a) (omega arith) (omega arith),
+      ap (λ y. y .count) here ∙ part-word 10 (10 * a) 47 w 1 (48 + 10 * a) (omega arith) (omega arith),
+      λ j k.
+          ap (λ y. getD (y .parameters) j (parameterIn [])) here ∙ made-at parameterIn 2 4 (drop 2 g) j k
+          ∙ ap₂ (λ x y. record { tag = x; number = y })
+          (part-word 2 (2 * j) 2 g 0 (2 + 2 * j) (omega arith) (omega arith)
+          ∙ part-word 10 (10 * a) 47 w (2 + 2 * j) (49 + 10 * a + 2 * j) (omega arith) (omega arith))
+          (part-word 2 (2 * j) 2 g 1 (3 + 2 * j) (omega arith) (omega arith)
+          ∙ part-word 10 (10 * a) 47 w (3 + 2 * j) (50 + 10 * a + 2 * j) (omega arith) (omega arith)),
+    )
 
-  -- the symbol a: its kind, its count, and of each of its parameters the tag and the number
-  abbrev symbol : ℕ → Symbol
-  symbol a = getD (b .table) a (record { kind = 0; count = 0; parameters = map parameterIn (groups 2 4 []) })
-
-  pub symbol-said : (a : ℕ) → a < 16 → (symbol a .kind ≡ getD w (47 + 10 * a) 0) × (symbol a .count ≡ getD w (48 + 10 * a) 0)
-      × ((j : ℕ) → j < 4 → getD (symbol a .parameters) j (record { tag = 0; number = 0 })
-      ≡ record { tag = getD w (49 + 10 * a + 2 * j) 0; number = getD w (50 + 10 * a + 2 * j) 0 })
-  unfolding bookHeld symbolIn parameterIn
-  symbol-said a h =
-      let g = take 10 (drop (10 * a) (drop 47 w)) in
-      let here : symbol a ≡ symbolIn g = ap (λ b. getD (b .table) a (symbolIn [])) book-is ∙ made-at symbolIn 10 16 (drop 47 w) a h in (
-        ap (λ y. y .kind) here ∙ part-word 10 (10 * a) 47 w 0 (47 + 10 * a) (omega arith) (omega arith),
-        ap (λ y. y .count) here ∙ part-word 10 (10 * a) 47 w 1 (48 + 10 * a) (omega arith) (omega arith),
-        λ j k.
-            ap (λ y. getD (y .parameters) j (parameterIn [])) here ∙ made-at parameterIn 2 4 (drop 2 g) j k
-            ∙ ap₂ (λ x y. record { tag = x; number = y })
-            (part-word 2 (2 * j) 2 g 0 (2 + 2 * j) (omega arith) (omega arith)
-            ∙ part-word 10 (10 * a) 47 w (2 + 2 * j) (49 + 10 * a + 2 * j) (omega arith) (omega arith))
-            (part-word 2 (2 * j) 2 g 1 (3 + 2 * j) (omega arith) (omega arith)
-            ∙ part-word 10 (10 * a) 47 w (3 + 2 * j) (50 + 10 * a + 2 * j) (omega arith) (omega arith)),
-      )
-
-  -- the symbol of the position k + 1, and the set of those that follow it
-  pub positions-said : (k : ℕ) → k < 31 → (getD (b .occurrences) k 0 ≡ getD w (207 + k) 0) × (getD (b .follows) k 0 ≡ getD w (238 + k) 0)
-  unfolding bookHeld
-  positions-said k h = rw book-is (word-of 31 207 w k h, word-of 31 238 w k h)
+-- the symbol of the position k + 1, and the set of those that follow it
+pub positions-said : (w : List ℕ) → getD w 0 0 ≡ 1001 → (k : ℕ) → k < 31
+    → (getD (bookIn w .occurrences) k 0 ≡ getD w (207 + k) 0) × (getD (bookIn w .follows) k 0 ≡ getD w (238 + k) 0)
+unfolding bookHeld
+positions-said w layout k h = rw (book-is w layout) (word-of 31 207 w k h, word-of 31 238 w k h)
 
 -- A block of another layout holds the empty book.
 pub no-book-said : (w : List ℕ) → (getD w 0 0 ≡ 1001 → ⊥) → bookIn w ≡ emptyBook
@@ -104,32 +109,32 @@ unfolding slotIn slotOf
 slot-said g = (λ e. rw e, λ n. rw (ne-eqb (getD g 0 0) 7 n))
 
 -- A state's block of this layout.
-module _ (w : List ℕ) (layout : getD w 0 0 ≡ 2001) where
-  abbrev s : State
-  s = stateIn w
+state-is : (w : List ℕ) → getD w 0 0 ≡ 2001 → stateIn w ≡ stateHeld w
+unfolding stateIn
+state-is w layout = ap (λ z. cond z (stateHeld w) unknownState) (eq-eqb (getD w 0 0) 2001 layout)
 
-  state-is : stateIn w ≡ stateHeld w
-  unfolding stateIn
-  state-is = ap (λ z. cond z (stateHeld w) unknownState) (eq-eqb (getD w 0 0) 2001 layout)
+pub state-head-said : (w : List ℕ) → getD w 0 0 ≡ 2001 → (stateIn w .number ≡ getD w 1 0) × (stateIn w .count ≡ getD w 2 0)
+unfolding stateHeld
+state-head-said w layout = rw (state-is w layout) (refl, refl)
 
-  pub state-head-said : (s .number ≡ getD w 1 0) × (s .count ≡ getD w 2 0)
-  unfolding stateHeld
-  state-head-said = rw state-is (refl, refl)
-
-  -- what is counted: the position i, and of its disjunct the variable v
-  pub place-said : (i : ℕ) → i < getD w 2 0 → i < 128 → length w ≡ 3715 → (getD (s .positions) i 0 ≡ getD w (3 + i) 0)
-      × ((v : ℕ) → v < 4 → getD (getD (s .pool) i (disjunctIn []) .vars) v (slotIn []) ≡ slotIn (take 7 (drop (131 + 28 * i + 7 * v) w)))
-  unfolding stateHeld disjunctIn
-  place-said i h k long =
-      let n = getD w 2 0 in
-      let first = take 128 (drop 3 w) in
-      let size : length first ≡ 128 = length-take-le 128 (drop 3 w) (omega (arith, length-drop 3 w)) in
-      let group = take 28 (drop (28 * i) (drop 131 w)) in
-      rw state-is (
-        pad-at 128 0 (take n first) i 0 (omega (arith, length-take n first)) ∙ getD-take n first i 0 h ∙ getD-take 128 (drop 3 w) i 0 k ∙ getD-drop 3 w i 0,
-        λ v u.
-            ap (λ d. getD (d .vars) v (slotIn [])) (held-at w i v h k u) ∙ made-at slotIn 7 4 group v u ∙ ap slotIn (seven w i v k u long),
-      )
+-- what is counted: the position i, and of its disjunct the variable v; the defaults of `getD` are never used
+pub place-said : (w : List ℕ) → length w ≡ 3715 → getD w 0 0 ≡ 2001 → (i : ℕ) → i < getD w 2 0 → i < 128 → (none : Disjunct) (nothing : Slot)
+    → (getD (stateIn w .positions) i 0 ≡ getD w (3 + i) 0)
+    × ((v : ℕ) → v < 4 → getD (getD (stateIn w .pool) i none .vars) v nothing ≡ slotIn (take 7 (drop (131 + 28 * i + 7 * v) w)))
+unfolding stateHeld disjunctIn
+place-said w long layout i h k none nothing =
+    let n = getD w 2 0 in
+    let first = take 128 (drop 3 w) in
+    let size : length first ≡ 128 = length-take-le 128 (drop 3 w) (omega (arith, length-drop 3 w)) in
+    let group = take 28 (drop (28 * i) (drop 131 w)) in
+    let many : length (stateHeld w .pool) ≡ 128 = pool-size w in
+    rw (state-is w layout) (
+      pad-at 128 0 (take n first) i 0 (omega (arith, length-take n first)) ∙ getD-take n first i 0 h ∙ getD-take 128 (drop 3 w) i 0 k ∙ getD-drop 3 w i 0,
+      λ v u.
+          ap (λ d. getD (d .vars) v nothing) (any-default (stateHeld w .pool) i none (disjunctIn []) (omega arith) ∙ held-at w i v h k u)
+          ∙ any-default (map slotIn (groups 7 4 group)) v nothing (slotIn []) (omega (arith, made-length slotIn 7 4 group)) ∙ made-at slotIn 7 4 group v u
+          ∙ ap slotIn (seven w i v k u long),
+    )
 
 pub no-state-said : (w : List ℕ) → (getD w 0 0 ≡ 2001 → ⊥) → stateIn w ≡ stateOf (record { number = 1000001; held = [] })
 unfolding stateIn
@@ -217,3 +222,48 @@ lent-as-said c = refl
 
 pub lent-bytes-said : (cs : List LentCall) → lentBytes cs ≡ all (λ c. isBytes (c .bytes)) cs
 lent-bytes-said cs = refl
+
+-- What is seen of a lent call in `run-seen`: the answer with its number, and its results as a call by value hands them back.
+pub answer-with-said : (answerWith 0 ≡ Answer.Accepted) × (answerWith 9 ≡ Answer.Unsound) × (answerWith 10 ≡ Answer.OutOfForm) × (answerWith 11 ≡ Answer.TooMany)
+    × (answerWith 12 ≡ Answer.NoRoom) × (answerWith 13 ≡ Answer.NoSpace)
+unfolding answerWith
+answer-with-said = (refl, refl, refl, refl, refl, refl)
+
+pub seen-said : (b : Book) (m : LentMade) → seen b m
+    ≡ record {
+      lent = lentAs (m .lent);
+      taken = record {
+        answer = answerWith (m .left .number);
+        rows = m .left .rows;
+        book = b;
+        state = stateIn (m .left .state);
+        tally = tallyIn (m .left .tally);
+      };
+      buffer = m .left .buffer;
+    }
+seen-said b m = refl
+
+pub calls-said : (cs : List LentCall) → calls cs ≡ map (λ c. event (lentAs c)) cs
+calls-said cs = refl
+
+-- The types of what is lent and left: each has these parts and no other, and any parts make one.
+pub lent-call-whole : ((c : LentCall) → c ≡ record { bytes = c .bytes; buffer = c .buffer; place = c .place; tally = c .tally })
+    × ((bytes buffer : Bytes) (place : ℕ) (tally : List ℕ) → let c : LentCall = record { bytes = bytes; buffer = buffer; place = place; tally = tally } in
+    (c .bytes ≡ bytes) × (c .buffer ≡ buffer) × (c .place ≡ place) × (c .tally ≡ tally))
+lent-call-whole = (λ c. refl, λ a b p t. (refl, refl, refl, refl))
+
+pub lent-made-whole : ((m : LentMade) → m ≡ record { lent = m .lent; left = m .left })
+    × ((c : LentCall) (l : EventLeft) → let m : LentMade = record { lent = c; left = l } in (m .lent ≡ c) × (m .left ≡ l))
+lent-made-whole = (λ m. refl, λ c l. (refl, refl))
+
+pub event-left-whole : ((l : EventLeft) → l ≡ record { number = l .number; rows = l .rows; buffer = l .buffer; tally = l .tally; state = l .state })
+    × ((number rows : ℕ) (buffer : Bytes) (tally state : List ℕ)
+    → let l : EventLeft = record { number = number; rows = rows; buffer = buffer; tally = tally; state = state } in
+    (l .number ≡ number) × (l .rows ≡ rows) × (l .buffer ≡ buffer) × (l .tally ≡ tally) × (l .state ≡ state))
+event-left-whole = (λ l. refl, λ n r b t s. (refl, refl, refl, refl, refl))
+
+pub read-left-whole : ((l : ReadLeft) → l ≡ record { number = l .number; book = l .book; place = l .place; begins = l .begins; ends = l .ends })
+    × ((number : ℕ) (book : List ℕ) (place begins ends : ℕ)
+    → let l : ReadLeft = record { number = number; book = book; place = place; begins = begins; ends = ends } in
+    (l .number ≡ number) × (l .book ≡ book) × (l .place ≡ place) × (l .begins ≡ begins) × (l .ends ≡ ends))
+read-left-whole = (λ l. refl, λ n b p x y. (refl, refl, refl, refl, refl))

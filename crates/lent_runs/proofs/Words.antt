@@ -1,8 +1,8 @@
 -- What an accepted event leaves in the state's words, whatever they were: word by word (`accepted-words`).
 use mathlib.Core.Path.{_≡_, refl, sym, ap, ap₂, _∙_}
 use mathlib.Core.Bool.{Bool, true, false}
-use mathlib.Core.List.{List, [], _∷_, _++_, map, append-nil, List·Memᴰ}
-use Prim.Native.Nat.{ℕ, zero, suc, _+_, _-_, _*_, _≤_, _<_, min, max}
+use mathlib.Core.List.{List, [], _++_, map, append-nil, List·Memᴰ}
+use Prim.Native.Nat.{ℕ, suc, _+_, _-_, _*_, _≤_, _<_, min, max}
 use native.Mathlib.Nat.{mul-comm, mul-add}
 use native.Mathlib.Omega.{arith}
 use borrow.Author.Tests.{leb-true, eqb-true, eqb-false, eq-eqb}
@@ -16,7 +16,6 @@ use Rattle.laws.proofs.Parts.{pad-length, pad-at, pad-beyond, all-pad}
 use Rattle.laws.proofs.Fronts.{gather-length, front-length, front-within, front-behind}
 use Rattle.form.specs.Text.{Bytes, isBytes}
 use Rattle.record.specs.Records.{eventIn}
-use Rattle.book.specs.declared.Book.{Book}
 use Rattle.book.specs.Books.{viewBook}
 use Rattle.calls.specs.Calls.{taken}
 use Rattle.demands.proofs.Checks.{accepted-zero, accepted-leaves}
@@ -34,14 +33,8 @@ use Rattle.blocks.proofs.Groups.{groups-at, groups-gather}
 use Rattle.blocks.proofs.States.{entry-length, Canonical, canonical-of, pool-long, positions-long, each-place, stored-parts, stored-length, stored-head}
 use Rattle.lent_runs.specs.Stored.{groupAt, heldNumber, StoredWords}
 use Rattle.lent_runs.proofs.Accepted.{few-after, each-after, wide-after}
-use Rattle.lent_runs.proofs.Places.{seven}
+use Rattle.lent_runs.proofs.Places.{any-default, seven}
 use Rattle.lent_runs.proofs.Checks.{other-state}
-
--- an element that is there is none by default
-any-default : {A : Type 0} (l : List A) (i : ℕ) (a b : A) → i < length l → getD l i a ≡ getD l i b
-any-default [] i a b h = absurd (omega arith)
-any-default (x ∷ l) zero a b h = refl
-any-default (x ∷ l) (suc i) a b h = any-default l i a b (omega arith)
 
 -- The i-th of the groups that are written over the front of words, and one behind them.
 module _ {A : Type 0} (f : A → List ℕ) (k : ℕ) (l : List A) (size : (x : A) → List·Memᴰ x l → length (f x) ≡ k) (w : List ℕ) where
@@ -172,7 +165,7 @@ module _ (w : List ℕ) (long : length w ≡ 3715) (p : State) (few : length (p 
         ∙ any-default (map entryWords E) v [] (entryWords (free [])) (rw length-map (omega (arith, E-long)))
         ∙ List·getD-map entryWords E v (free []) ∙ ap entryWords (pad-beyond 4 (free []) D v (free []) behind u)
 
-  pub stored-words : (variables : ℕ) → ((h : Held) → List·Memᴰ h (p .held) → length (h .disjunct) ≡ variables)
+  stored-words : (variables : ℕ) → ((h : Held) → List·Memᴰ h (p .held) → length (h .disjunct) ≡ variables)
       → StoredWords variables (p .number) (p .held) (getD w 2 0) w after
   unfolding stateOf
   stored-words variables wide =
@@ -205,34 +198,31 @@ module _ (w : List ℕ) (long : length w ≡ 3715) (p : State) (few : length (p 
         );
       }
 
+-- The block of an accepted event is one of this layout, or it would be 9.
+layout : (w s : List ℕ) (bytes buffer : Bytes) (place : ℕ) (t : List ℕ) → eventLeft w s bytes buffer place t .number ≡ 0 → getD s 0 0 ≡ 2001
+layout w s bytes buffer place t none = go (eqb (getD s 0 0) 2001) refl
+  where
+    go : (z : Bool) → eqb (getD s 0 0) 2001 ≡ z → getD s 0 0 ≡ 2001
+    go true e = eqb-true (getD s 0 0) 2001 e
+    go false e = absurd (let nine = other-state w s bytes buffer place t (eqb-false (getD s 0 0) 2001 e) in omega (arith, nine, none))
+
+number-word : (s : List ℕ) → getD s 0 0 ≡ 2001 → stateIn s .number ≡ getD s 1 0
+unfolding stateIn stateHeld
+number-word s e = rw (eq-eqb (getD s 0 0) 2001 e)
+
 -- An accepted event, whatever the words were.
-module _ (w s : List ℕ) (long : length s ≡ 3715) (bytes : Bytes) (lent : isBytes bytes ≡ true) (buffer : Bytes) (place : ℕ) (t : List ℕ)
-    (zero : eventLeft w s bytes buffer place t .number ≡ 0) where
-  abbrev b : Book
-  b = bookIn w
-
-  -- the block is one of this layout, or it would be 9
-  layout : getD s 0 0 ≡ 2001
-  layout = go (eqb (getD s 0 0) 2001) refl
-    where
-      go : (z : Bool) → eqb (getD s 0 0) 2001 ≡ z → getD s 0 0 ≡ 2001
-      go true e = eqb-true (getD s 0 0) 2001 e
-      go false e = absurd (let nine = other-state w s bytes buffer place t (eqb-false (getD s 0 0) 2001 e) in omega (arith, nine, zero))
-
-  number-word : stateIn s .number ≡ getD s 1 0
-  unfolding stateIn stateHeld
-  number-word = rw (eq-eqb (getD s 0 0) 2001 layout)
-
-  pub accepted-words : StoredWords (b .variables) (suc (getD s 1 0)) (newHeld (viewBook b) (heldFirst (b .variables) (stateIn s)) (eventIn bytes))
-      (getD s 2 0) s
-      (eventLeft w s bytes buffer place t .state)
-  unfolding eventLeft
-  accepted-words =
-      let r = taken b (stateIn s) bytes buffer place (tallyIn t) in
-      let e = accepted-leaves b (stateIn s) bytes buffer place (tallyIn t) zero .0 in
-      let few = few-after b (stateIn s) bytes lent buffer place (tallyIn t) zero in
-      let each = each-after b (stateIn s) bytes lent buffer place (tallyIn t) zero in
-      let held = newHeld (viewBook b) (heldFirst (b .variables) (stateIn s)) (eventIn bytes) in
-      rw (accepted-zero (r .answer) zero, e, ← number-word)
-      (stored-words s long (record { number = suc (stateIn s .number); held = held }) few each (b .variables)
-      (wide-after b (stateIn s) bytes lent buffer place (tallyIn t) zero))
+pub accepted-words : (w s : List ℕ) → length s ≡ 3715 → (bytes : Bytes) → isBytes bytes ≡ true → (buffer : Bytes) (place : ℕ) (t : List ℕ)
+    → eventLeft w s bytes buffer place t .number ≡ 0
+    → StoredWords (bookIn w .variables) (suc (getD s 1 0)) (newHeld (viewBook (bookIn w)) (heldFirst (bookIn w .variables) (stateIn s)) (eventIn bytes))
+    (getD s 2 0) s (eventLeft w s bytes buffer place t .state)
+unfolding eventLeft
+accepted-words w s long bytes lent buffer place t none =
+    let b = bookIn w in
+    let r = taken b (stateIn s) bytes buffer place (tallyIn t) in
+    let e = accepted-leaves b (stateIn s) bytes buffer place (tallyIn t) none .0 in
+    let few = few-after b (stateIn s) bytes lent buffer place (tallyIn t) none in
+    let each = each-after b (stateIn s) bytes lent buffer place (tallyIn t) none in
+    let held = newHeld (viewBook b) (heldFirst (b .variables) (stateIn s)) (eventIn bytes) in
+    rw (accepted-zero (r .answer) none, e, ← number-word s (layout w s bytes buffer place t none))
+    (stored-words s long (record { number = suc (stateIn s .number); held = held }) few each (b .variables)
+    (wide-after b (stateIn s) bytes lent buffer place (tallyIn t) none))
