@@ -131,7 +131,8 @@ module _ (w s : List ℕ) (bytes buffer : Bytes) (place : ℕ) (t : List ℕ) wh
   count-over h = of-state (λ _. rw (lt-leb (getD s 2 0) 128 h))
 
   -- a code above 7 in the words of a variable that the book has, of a disjunct that is held: never six exclusions
-  pub code-over : (i v : ℕ) → i < getD s 2 0 → i < 128 → v < bookIn w .variables → 7 < getD s (131 + 28 * i + 7 * v) 0 → eventLeft w s bytes buffer place t .number ≡ 9
+  pub code-over : (i v : ℕ) → i < getD s 2 0 → i < 128 → v < bookIn w .variables → 7 < getD s (131 + 28 * i + 7 * v) 0
+      → eventLeft w s bytes buffer place t .number ≡ 9
   unfolding stateSound
   code-over i v h k u over = go (bookSound (bookIn w)) refl
     where
@@ -145,7 +146,8 @@ module _ (w s : List ℕ) (bytes buffer : Bytes) (place : ℕ) (t : List ℕ) wh
           (sym (slot-over (slot s i v h k low) (rw (code-at s i v h k low) over)) ∙ counts-at s i v h k low (bookIn w .variables) u four counts))
 
   -- a tag above 2 in a parameter that is counted, of a symbol that is declared
-  pub tag-over : (a j : ℕ) → a < getD w 2 0 → a < 16 → j < getD w (47 + 10 * a + 1) 0 → j < 4 → 2 < getD w (47 + 10 * a + 2 + 2 * j) 0 → eventLeft w s bytes buffer place t .number ≡ 9
+  pub tag-over : (a j : ℕ) → a < getD w 2 0 → a < 16 → j < getD w (47 + 10 * a + 1) 0 → j < 4 → 2 < getD w (47 + 10 * a + 2 + 2 * j) 0
+      → eventLeft w s bytes buffer place t .number ≡ 9
   tag-over a j h k u v over = of-book (λ _. fails (bookSound (bookHeld w)) λ sound.
       let low = leb-true (getD (tag w a j h k u v) 0 0) 2 (tag-at w a j h k u v sound) in
       omega (arith, low, tag-word w a j h k u v, over))

@@ -224,8 +224,8 @@ pub lent-bytes-said : (cs : List LentCall) → lentBytes cs ≡ all (λ c. isByt
 lent-bytes-said cs = refl
 
 -- What is seen of a lent call in `run-seen`: the answer with its number, and its results as a call by value hands them back.
-pub answer-with-said : (answerWith 0 ≡ Answer.Accepted) × (answerWith 9 ≡ Answer.Unsound) × (answerWith 10 ≡ Answer.OutOfForm) × (answerWith 11 ≡ Answer.TooMany)
-    × (answerWith 12 ≡ Answer.NoRoom) × (answerWith 13 ≡ Answer.NoSpace)
+pub answer-with-said : (answerWith 0 ≡ Answer.Accepted) × (answerWith 9 ≡ Answer.Unsound) × (answerWith 10 ≡ Answer.OutOfForm)
+    × (answerWith 11 ≡ Answer.TooMany) × (answerWith 12 ≡ Answer.NoRoom) × (answerWith 13 ≡ Answer.NoSpace)
 unfolding answerWith
 answer-with-said = (refl, refl, refl, refl, refl, refl)
 
