@@ -13,10 +13,18 @@
  * version are not taken for what they are not. Words may be copied, saved and loaded; on a machine of the same byte order they
  * are the same block.
  *
+ * Formats. Numbers of 32 bits in them are unsigned, with the least byte first.
+ * A record, 20 bytes: byte 0 is the kind, 1 to 255; byte 1 the argument count, 0 to 4; bytes 2 and 3 are zero; from byte 4 on stand
+ * four arguments of 32 bits, zero beyond the count.
+ * A row, 24 bytes: bytes 0 to 3 are the number of the event, 32 bits, from 1, counting accepted events; byte 4 is the variable count;
+ * bytes 5 to 7 are zero; from byte 8 on stand four values of 32 bits, by declaration, zero beyond the count.
+ *
  * Threads. Calls may run at once where none of them writes what another one is lent; so one book may serve many states.
  *
  * Stack. A call needs under 256 KB. This was measured, on texts and books at all limits and with 128 disjuncts held (203,000 bytes
  * for watch_read and watch_name, 177,000 for watch_event; bindings/c/stack.c holds them to it), and is not proved.
+ *
+ * Linking. The archive asks of the linker nothing but memcpy and memset (or their like: memmove, memcmp, bcmp).
  *
  * What each call gives and leaves, as stated below, is proved of its source (crates/lent); that this header declares the same
  * calls, and what the compiler makes of them, is tried by bindings/test.
@@ -40,7 +48,7 @@ extern "C" {
 #define WATCH_BOOK_LAYOUT 1001
 #define WATCH_STATE_LAYOUT 2001
 
-/* The bytes of an event record and of a row, and the most rows that one event has. */
+/* The bytes of an event record and of a row (formats above), and the most rows that one event has. */
 #define WATCH_RECORD_BYTES 20
 #define WATCH_ROW_BYTES 24
 #define WATCH_EVENT_ROWS (16 * 129)
@@ -66,7 +74,7 @@ enum {
     WATCH_BAD_PATTERN = 6,  /* place: pattern out of form */
     WATCH_EMPTY_WORD = 7,   /* place: empty word admitted */
     WATCH_UNBOUND = 8,      /* place: a word leaves a variable unbound */
-    WATCH_UNSOUND = 9,      /* unsound book or state */
+    WATCH_UNSOUND = 9,      /* unsound book or state, or a row that would leave a variable free */
     WATCH_OUT_OF_FORM = 10, /* event record out of form, or not 20 bytes */
     WATCH_TOO_MANY = 11,    /* 1,000,000 events already accepted */
     WATCH_NO_ROOM = 12,     /* no room */

@@ -5,7 +5,8 @@
 //! [`Book`], [`State`] and [`Tally`] own what they hold; [`lent`] has the same calls over arrays of words that the caller keeps.
 //! Any text, words, bytes and places may be given: what cannot be used is refused by its [`Answer`], and then state and rows are
 //! as they were. Words can be saved and loaded: all of them are safe, and those that no watch can use are answered with
-//! [`Answer::Unsound`]. No call allocates or keeps anything, and one book may serve many states at once.
+//! [`Answer::Unsound`]. The calls of [`lent`] allocate and keep nothing; a [`Book`] and a [`State`] have their words in a box of their
+//! own. One book may serve many states at once.
 //!
 //! A call needs less than [`STACK_BYTES`] of stack, as was measured; what the calls give and leave is proved.
 //!
@@ -34,9 +35,11 @@ pub const STATE_WORDS: usize = 3715;
 pub const BOOK_LAYOUT: u32 = 1001;
 /// The first word of a state: the number of its layout.
 pub const STATE_LAYOUT: u32 = 2001;
-/// The bytes of an event record.
+/// The bytes of an event record: kind (1 to 255), argument count (0 to 4), two zeros, and four arguments of 32 bits, the least byte
+/// first, zero beyond the count.
 pub const RECORD_BYTES: usize = 20;
-/// The bytes of a row.
+/// The bytes of a row: event number (32 bits, from 1, counting accepted events), variable count (one byte), three zeros, and four
+/// values of 32 bits by declaration, zero beyond the count; the least byte first.
 pub const ROW_BYTES: usize = 24;
 /// The most rows that one event has.
 pub const EVENT_ROWS: usize = 16 * 129;
@@ -46,7 +49,7 @@ pub const STACK_BYTES: usize = 256 * 1024;
 /// What a call answers, by the numbers of document 01.
 #[derive(Clone, Copy, Debug, PartialEq, Eq, Hash)]
 pub enum Answer {
-    /// 0
+    /// 0: accepted
     Accepted = 0,
     /// 1: book over 4,096 bytes
     TooLong = 1,
@@ -64,7 +67,7 @@ pub enum Answer {
     EmptyWord = 7,
     /// 8: a word leaves a variable unbound
     Unbound = 8,
-    /// 9: unsound book or state
+    /// 9: unsound book or state, or a row that would leave a variable free
     Unsound = 9,
     /// 10: event record out of form, or not 20 bytes
     OutOfForm = 10,
@@ -118,7 +121,7 @@ impl fmt::Display for Answer {
             Answer::BadPattern => "pattern out of form",
             Answer::EmptyWord => "empty word admitted",
             Answer::Unbound => "a word leaves a variable unbound",
-            Answer::Unsound => "unsound book or state",
+            Answer::Unsound => "unsound book or state, or a row that would leave a variable free",
             Answer::OutOfForm => "event record out of form, or not 20 bytes",
             Answer::TooMany => "1,000,000 events already accepted",
             Answer::NoRoom => "no room",

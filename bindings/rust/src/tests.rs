@@ -49,6 +49,9 @@ fn book_of_b1() {
     let several = Book::read(b"vars\nsym a 1\nsym b 2\nmatch (a | b | a b)\n").unwrap();
     assert_eq!((several.begin_count(), several.end_count()), (3, 3));
     assert_eq!(Book::from_words(several.words()), several);
+    let uneven = Book::read(b"vars\nsym a 1\nsym b 2\nmatch (a | b) a\n").unwrap();
+    assert_eq!((uneven.begin_count(), uneven.end_count()), (2, 1));
+    assert_eq!(Book::from_words(uneven.words()), uneven);
 }
 
 #[test]
