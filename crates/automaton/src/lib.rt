@@ -1,1 +1,2 @@
 // The theorems about the meaning are in proofs; this crate has no code and no definition.
+#![tactic(auto)]

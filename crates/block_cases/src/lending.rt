@@ -16,7 +16,7 @@ pub const BUFFER: usize = 3200;
 pub const ROW: usize = 24;
 
 // The kinds of damage of one case, 0 for none.
-#[derive(Drop)]
+#[derive(Clone, Copy)]
 pub struct Kinds {
     pub book: u32,
     pub state: u32,
@@ -24,7 +24,7 @@ pub struct Kinds {
 }
 
 // What is held after so many accepted events, the event, and the damage.
-#[derive(Drop)]
+#[derive(Clone, Copy)]
 pub struct Case {
     pub number: u32,
     pub held: Held,
@@ -33,7 +33,7 @@ pub struct Case {
 }
 
 // The buffer's length, and the place from which rows go into it.
-#[derive(Drop)]
+#[derive(Clone, Copy)]
 pub struct Space {
     pub size: usize,
     pub place: usize,

@@ -1,4 +1,5 @@
 // The book by value, the answers of a reading, and what a reading hands back. For the reader and the matcher.
+#![tactic(auto)]
 ghost use Rattle.std.specs.Prelude.{◌≡◌};
 ghost use Rattle.book.specs.Answers.{answer_of, number_of, place_of};
 ghost use Rattle.book.specs.Books.{empty_book, book_with};
@@ -11,7 +12,7 @@ pub const TEXT_LIMIT: usize = 4096;
 
 // Counts, the declaring places of names, the symbol table, and the pattern as positions: index i of `occurrences` and `follows` is
 // position i + 1; sets of positions are kept one bit to a position.
-#[derive(Drop)]
+#[derive(Clone, Copy)]
 pub struct Book {
     pub variables: usize,
     pub symbols: usize,
@@ -26,7 +27,7 @@ pub struct Book {
 }
 
 // The answers 0 to 8 of document 01; a place is the first byte of the offending word or token.
-#[derive(Drop)]
+#[derive(Clone, Copy)]
 pub enum ReadingAnswer {
     Accepted,
     TooLong,
@@ -40,7 +41,7 @@ pub enum ReadingAnswer {
 }
 
 // What a reading hands back: the answer, the book, and the counts of its beginning and ending positions.
-#[derive(Drop)]
+#[derive(Clone, Copy)]
 pub struct Reading {
     pub answer: ReadingAnswer,
     pub book: Book,

@@ -13,7 +13,7 @@ const LAST: u8 = 128;
 const ROOM: usize = CAPACITY * ROW;
 
 // What was compared, and the state to go on from.
-#[derive(Drop)]
+#[derive(Clone, Copy)]
 struct Run {
     state: State,
     score: Score,

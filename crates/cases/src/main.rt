@@ -2,6 +2,7 @@
 // `counted::event` and `tally::count`, by `handed`: document 01's six events of B1 with refused ones between, whose answers, rows and counters are
 // printed, two rows where their counter has room for one, an unsound book, and counters that count several at once and stop at the largest
 // 64-bit value. Before them readings and names by the public calls.
+#![tactic(auto)]
 mod full;
 mod parts;
 mod score;

@@ -1,7 +1,7 @@
 // Results counted, for the parts alone and for the full pool.
 
 // How many results were right, and how many wrong.
-#[derive(Drop)]
+#[derive(Clone, Copy)]
 pub struct Score {
     pub right: u64,
     pub wrong: u64,

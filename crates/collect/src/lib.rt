@@ -1,5 +1,6 @@
 // The rows of an event collected from the sources of its ending positions, and on the way the test for a row that would leave a variable free.
 // For `matcher`.
+#![tactic(auto)]
 ghost use Rattle.std.specs.Prelude.{◌≡◌, true, cond, ◌||◌, [], ◌∷◌, map, ℕ, ◌≤◌, ◌<◌, take, get_or};
 ghost use Rattle.laws.specs.Bits.{bit};
 ghost use Rattle.laws.specs.Sets.{within, grow};
@@ -28,7 +29,7 @@ use packed::{CAPACITY, Words};
 use rows::{NO_ROOM, ROWS, Valuation};
 
 // What is collected so far: how many rows stand in the lent words, or NO_ROOM; and whether a meeting left a variable free.
-#[derive(Drop)]
+#[derive(Clone, Copy)]
 pub struct Collected {
     pub rows: usize,
     pub free: bool,

@@ -3,7 +3,7 @@ use crate::sizes::RECORD_ROOM;
 use record::RECORD;
 
 // Of the 21 bytes the first `length` are lent.
-#[derive(Drop)]
+#[derive(Clone, Copy)]
 pub struct Lent {
     pub bytes: [u8; RECORD_ROOM],
     pub length: usize,

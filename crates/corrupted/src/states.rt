@@ -8,7 +8,7 @@ use state::{CAPACITY, State};
 use table::VARIABLES;
 
 // The event number, and up to two disjuncts.
-#[derive(Drop)]
+#[derive(Clone, Copy)]
 pub struct Held {
     pub number: u32,
     pub count: usize,

@@ -1,4 +1,5 @@
 // The event call with the tally lent: "is lent to each call that counts and changed there". Over the by-value call of the crate watch.
+#![tactic(auto)]
 ghost use Rattle.std.specs.Prelude.{◌≡◌, true};
 ghost use Rattle.form.specs.Text.{is_bytes};
 ghost use Rattle.calls.specs.Calls.{taken, buffer_after};
@@ -10,7 +11,7 @@ use state::State;
 use tally::Tally;
 
 // What an event call hands back beside the lent tally: the answer, the count of rows, and book and state as they are then.
-#[derive(Drop)]
+#[derive(Clone, Copy)]
 pub struct Given {
     pub answer: EventAnswer,
     pub rows: usize,

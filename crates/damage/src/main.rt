@@ -1,5 +1,6 @@
 // Damaged books, states, records, places, buffers and tallies, from a generator with a fixed start, are lent to the event call, and all
 // that it leaves is compared with what document 01 says. Prints how many cases there were, how they were answered, and the differences.
+#![tactic(auto)]
 ghost use Rattle.std.specs.Prelude.{◌≤◌};
 
 use book::Book;
@@ -15,7 +16,7 @@ use tally::Tally;
 use watch::Taken;
 
 // How many cases there were, how many got each answer, and how many left something else than they must.
-#[derive(Drop)]
+#[derive(Clone, Copy)]
 struct Score {
     cases: u32,
     accepted: u32,

@@ -1,18 +1,19 @@
 // What a symbol's constraint on an event says, by value: the types. How a constraint is made is in `constraint`, how a disjunct meets one in
 // `disjunct`.
+#![tactic(auto)]
 
 // As many demands as a symbol has parameters.
 pub const DEMANDS: usize = 4;
 
 // "variable equals argument"
-#[derive(Drop)]
+#[derive(Clone, Copy)]
 pub struct Demand {
     pub variable: u32,
     pub value: u32,
 }
 
 // The first `count` demands, or (ok false) false.
-#[derive(Drop)]
+#[derive(Clone, Copy)]
 pub struct Constraint {
     pub ok: bool,
     pub count: usize,

@@ -1,4 +1,5 @@
 // The disjunct: what it says of each of four variables; meeting and exclusion. For the matcher's sets; the order is in `ordering`.
+#![tactic(auto)]
 ghost use Rattle.std.specs.Prelude.{◌≡◌, true, false, ◌≤◌, ◌<◌, leb, length, take};
 ghost use Rattle.laws.specs.Lists.{any};
 ghost use Rattle.meaning.specs.Labels as Labels;
@@ -12,13 +13,13 @@ use demand::Constraint;
 use slot::Slot;
 
 // A slot for each of four variables; those beyond the book's variables are free.
-#[derive(Drop)]
+#[derive(Clone, Copy)]
 pub struct Disjunct {
     pub vars: [Slot; Disjunct::VARIABLES],
 }
 
 // What a meeting or an exclusion gives: a disjunct, or (ok false) none; then the disjunct as it was.
-#[derive(Drop)]
+#[derive(Clone, Copy)]
 pub struct Met {
     pub ok: bool,
     pub disjunct: Disjunct,

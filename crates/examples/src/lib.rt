@@ -1,1 +1,2 @@
 // Definitions and one theorem: see specs/ and proofs/.
+#![tactic(auto)]

@@ -9,7 +9,7 @@ use state::State;
 use tally::Tally;
 
 // What document 01 says that a call leaves, beside the buffer.
-#[derive(Drop)]
+#[derive(Clone, Copy)]
 pub struct Left {
     pub answer: usize,
     pub rows: usize,

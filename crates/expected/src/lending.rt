@@ -11,7 +11,7 @@ use state::State;
 use tally::Tally;
 
 // The kinds of damage of one case, 0 for none.
-#[derive(Drop)]
+#[derive(Clone, Copy)]
 pub struct Kinds {
     pub book: u32,
     pub state: u32,
@@ -19,7 +19,7 @@ pub struct Kinds {
 }
 
 // The buffer's length, and the place from which rows go into it.
-#[derive(Drop)]
+#[derive(Clone, Copy)]
 pub struct Space {
     pub size: usize,
     pub place: usize,

@@ -6,7 +6,7 @@ use corrupted::{amounts, states};
 use disjunct::Disjunct;
 
 // What is held, the event, and what it does: no room, or so many rows, and a disjunct that comes to stand at a place.
-#[derive(Drop)]
+#[derive(Clone, Copy)]
 pub struct Move {
     pub held: Held,
     pub kind: u8,

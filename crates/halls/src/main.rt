@@ -1,4 +1,5 @@
 // The listings of six sets of books, each below its heading, for the gate to run what `hall` does not have.
+#![tactic(auto)]
 fn list(heading: &[u8], first: [u8; 9], events: &[u8]) {
     io::write_all(1, heading);
     set_printing::print_files(first, events);

@@ -1,5 +1,6 @@
 // The public calls again, each handed on as it is: every contract here says of the very result what the theorems say of it (promises/specs), so
 // that contract and theorems speak of one thing, whatever the contract of the call below names. No public function has a `requires`.
+#![tactic(auto)]
 ghost use Rattle.std.specs.Prelude.{◌≡◌, true, ℕ, ◌+◌};
 ghost use Rattle.form.specs.Text.{is_bytes};
 ghost use Rattle.tally.specs.Tallies.{tallied};
@@ -132,7 +133,7 @@ pub fn none() -> Tally
 }
 
 // An answer's number and place.
-#[derive(Drop)]
+#[derive(Clone, Copy)]
 pub struct Told {
     pub number: usize,
     pub place: usize,

@@ -1,5 +1,6 @@
 // The leaves of a pattern's reader: names, signs behind an atom, a closing parenthesis, tokens that cannot stand. For the cycle of the
 // crate grammar.
+#![tactic(auto)]
 ghost use Rattle.std.specs.Prelude.{◌≡◌, true, ℕ, ◌+◌, ◌≤◌, length};
 ghost use Rattle.pattern.specs.Regex.{Regex};
 ghost use Rattle.form.specs.Scan as Scan;
@@ -23,7 +24,7 @@ const PLUS_SIGN: usize = b'+' as usize;
 const QUESTION: usize = b'?' as usize;
 
 // No fault, the place to go on from and the fragment; or a fault's number and its place.
-#[derive(Drop)]
+#[derive(Clone, Copy)]
 pub struct Parsed {
     pub fault: usize,
     pub place: usize,

@@ -1,4 +1,5 @@
 // The new label of one position after an event, and all that are held with it, or no room. For `advance`, which goes over the positions.
+#![tactic(auto)]
 ghost use Rattle.std.specs.Prelude.{◌≡◌, true, not, map, ℕ, ◌≤◌, ◌<◌, eqb, length, take, get_or};
 ghost use Rattle.laws.specs.Order.{ascending};
 ghost use Rattle.laws.specs.Sets.{Grown};
@@ -16,7 +17,7 @@ use demand::Constraint;
 use packed::{CAPACITY, NO_ROOM, Words};
 
 // What one position has: its number, whether it begins, what follows it, and its symbol's constraint.
-#[derive(Drop)]
+#[derive(Clone, Copy)]
 pub struct Position {
     pub number: usize,
     pub begins: bool,

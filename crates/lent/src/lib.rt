@@ -2,6 +2,7 @@
 // anything. Parameters are numbers, slices, and references to arrays and numbers: no struct, no enum and no bool crosses. No call has a
 // `requires`: any words, bytes, places and numbers are taken or refused. What is lent to one call must not overlap, which borrows see to in Rattle
 // and Rust and a caller in C has to (bindings/c/watch.h).
+#![tactic(auto)]
 ghost use Rattle.std.specs.Prelude.{◌≡◌, true, length};
 ghost use Rattle.form.specs.Text.{is_bytes};
 ghost use Rattle.book.specs.Books.{name_place};

@@ -1,6 +1,7 @@
 // Damaged words of books and states, records, places, buffers and tallies, from a generator with a fixed start, are lent to the event call, and every
 // word and byte that it leaves is compared with what document 01 and the description of the blocks say. Prints how many cases there were, how they
 // were answered, the rows, how many events had several, how many states came to hold fewer disjuncts, and the differences.
+#![tactic(auto)]
 ghost use Rattle.std.specs.Prelude.{◌≤◌};
 
 use block_cases::layout::{BOOK_WORDS, STATE_WORDS};

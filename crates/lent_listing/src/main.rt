@@ -1,5 +1,6 @@
 // The listing over the lent calls alone: `book.txt` and the records of standard input, printed as document 01 says. All that a program needs
 // beside the calls is its own words. The gate runs it on B1 with a full pool, refused records, 128 rows to an event and a short last record.
+#![tactic(auto)]
 use lent::{BOOK_WORDS, STATE_WORDS, TALLY_WORDS};
 
 // "Event record, 20 bytes"; "variable count (byte 4)" of a row.

@@ -1,4 +1,5 @@
 // The reader of the lines before the pattern: `vars`, then `sym` lines, up to the word `match`. For the reader of books.
+#![tactic(auto)]
 ghost use Rattle.std.specs.Prelude.{◌≡◌, map, ◌-◌, ◌+◌, ◌≤◌, eqb, length, take};
 ghost use Rattle.form.specs.Limits.{variable_limit, symbol_limit, parameter_limit};
 ghost use Rattle.form.specs.Text.{ignored_word, fixed_sign, vars_word, sym_word, match_word};
@@ -14,21 +15,21 @@ use table::{Name, Parameter, Symbol, Table};
 const EQUALS: usize = b'=' as usize;
 
 // What was read of the lines: no fault and the place to go on from, or a fault's number and its place; and the table so far.
-#[derive(Drop)]
+#[derive(Clone, Copy)]
 pub struct LinesRead {
     pub fault: usize,
     pub place: usize,
     pub table: Table,
 }
 
-#[derive(Drop)]
+#[derive(Clone, Copy)]
 pub struct ArgumentsRead {
     pub fault: usize,
     pub place: usize,
     pub symbol: Symbol,
 }
 
-#[derive(Drop)]
+#[derive(Clone, Copy)]
 pub struct SymbolRead {
     pub fault: usize,
     pub place: usize,

@@ -1,4 +1,5 @@
 // The listing of fourteen pairs of files, each below its heading, for the gate to run it on what document 01's sample does not have.
+#![tactic(auto)]
 fn list(heading: &[u8], book: &[u8], events: &[u8]) {
     io::write_all(1, heading);
     printing::print_files(book, events, 0);

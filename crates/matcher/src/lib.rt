@@ -1,5 +1,6 @@
 // The pure step of an event over lent words: its rows, with the test for a row that would leave a variable free, and then the new labels. It knows
 // no state, no record and no answer. For `transition`.
+#![tactic(auto)]
 ghost use Rattle.std.specs.Prelude.{◌≡◌, true, ◌≤◌};
 ghost use Rattle.meaning.specs.Book.{starting_at, sound_book};
 ghost use Rattle.meaning.specs.Room.{held_limit};
@@ -14,7 +15,7 @@ use packed::{CAPACITY, Words};
 use record::Event;
 
 // What an event does: whether a row would leave a variable free; how many disjuncts the new labels hold, or NO_ROOM of `packed`; how many rows.
-#[derive(Drop)]
+#[derive(Clone, Copy)]
 pub struct Effect {
     pub free: bool,
     pub held: usize,

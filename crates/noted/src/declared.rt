@@ -9,7 +9,7 @@ pub const NAME_BYTES: u32 = 12;
 pub const NO_DIGIT: u32 = 10;
 
 // A part of a text.
-#[derive(Drop)]
+#[derive(Clone, Copy)]
 pub struct Part {
     pub start: usize,
     pub size: usize,

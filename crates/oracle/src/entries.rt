@@ -12,7 +12,7 @@ pub const VALUE: u32 = 7;
 // One more than may be held: a list that has no room.
 const ROOM: usize = PLACES + 1;
 
-#[derive(Drop)]
+#[derive(Clone, Copy)]
 pub struct Entry {
     pub position: u32,
     pub d: u32,
@@ -20,7 +20,7 @@ pub struct Entry {
     pub numbers: [u32; EXCLUSIONS],
 }
 
-#[derive(Drop)]
+#[derive(Clone, Copy)]
 pub struct Held {
     pub count: usize,
     pub entries: [Entry; ROOM],

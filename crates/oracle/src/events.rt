@@ -4,7 +4,7 @@ use crate::entries::{EXCLUSIONS, Entry, Held};
 use crate::{drawn, entries};
 use corrupted::amounts;
 
-#[derive(Drop)]
+#[derive(Clone, Copy)]
 pub struct Event {
     pub kind: u8,
     pub count: u8,

@@ -4,7 +4,7 @@ use crate::entries::{EXCLUSIONS, Entry, Held, PLACES, VALUE};
 use crate::{entries, events};
 
 // The rows have the event's `d`, and each its value of `s`.
-#[derive(Drop)]
+#[derive(Clone, Copy)]
 pub struct Outcome {
     pub room: bool,
     pub unbound: bool,
@@ -15,7 +15,7 @@ pub struct Outcome {
 }
 
 // The event, by the symbol that matches it.
-#[derive(Drop)]
+#[derive(Clone, Copy)]
 pub struct Move {
     pub symbol: u32,
     pub a: u32,

@@ -1,5 +1,6 @@
 // The lines of a listing, gathered and written: for each record its number, the answer and the row count, then its rows; of a refused text
 // `book`, number, place. For the listings over values and over lent words; of a set of books each row and each refused text also has its book.
+#![tactic(auto)]
 ghost use Rattle.std.specs.Prelude.{◌≤◌};
 
 use row::ROW;

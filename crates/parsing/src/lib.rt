@@ -1,1 +1,2 @@
 // Laws only: what the reader answers, in terms of the stated form of texts.
+#![tactic(auto)]

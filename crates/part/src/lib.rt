@@ -1,5 +1,6 @@
 // One part of a call over several: a book and its state in lent words, judged on an event, and then moved by it. For the calls of a set, which judge
 // every part before any is moved.
+#![tactic(auto)]
 ghost use Rattle.std.specs.Prelude.{◌≡◌, suc, ◌+◌, ◌*◌, ◌≤◌, length};
 ghost use Rattle.laws.specs.Checks.{first_failing};
 ghost use Rattle.laws.specs.Lists.{gather};
@@ -17,7 +18,7 @@ ghost use Rattle.parts.specs.Parts.{row_with};
 use row::RowFields;
 
 // The number of the first failing check of 9 to 12, or 0; then how many rows there are.
-#[derive(Drop)]
+#[derive(Clone, Copy)]
 pub struct Judgement {
     pub number: usize,
     pub rows: usize,

@@ -1,5 +1,6 @@
 // One fragment of a pattern: its masks, the symbols of its positions and the positions that follow each. Index i of an array is
 // position i + 1; what belongs to no position of the fragment is 0. For the reader of patterns.
+#![tactic(auto)]
 ghost use Rattle.std.specs.Prelude.{◌≡◌, map, ℕ, ◌+◌, ◌≤◌, get_or};
 ghost use Rattle.laws.specs.Bits.{bit, join};
 ghost use Rattle.laws.specs.Lists.{numbers};
@@ -10,7 +11,7 @@ ghost use Rattle.piece.specs.Pieces.{piece_of, no_piece};
 // "positions 1 to 31"
 pub const POSITIONS: usize = 31;
 
-#[derive(Drop)]
+#[derive(Clone, Copy)]
 pub struct Piece {
     pub size: usize,
     pub empty: bool,

@@ -1,6 +1,7 @@
 // The listing, for the programs `listing`, of `book.txt` and standard input, and `listings`, of files by their names.
 // A refused text is printed as `book`, number, place. Otherwise the events are taken, 20 bytes to each, and printed is for each its
 // number, the answer and the row count, then its rows.
+#![tactic(auto)]
 use book::Book;
 use record::RECORD;
 use tally::Tally;

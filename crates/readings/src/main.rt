@@ -1,7 +1,8 @@
 // Reads the texts of data/cases, each behind its length and the answer it must get, and counts right and wrong answers.
 // A case: length (two bytes, low first), number (one byte), place (two bytes, low first), then the text.
+#![tactic(auto)]
 
-#[derive(Drop)]
+#[derive(Clone, Copy)]
 struct Score {
     more: bool,
     right: u64,

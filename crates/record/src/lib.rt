@@ -1,4 +1,5 @@
 // The event record: 20 lent bytes to an event, or out of form. For the event call.
+#![tactic(auto)]
 ghost use Rattle.std.specs.Prelude.{◌≡◌, ◌+◌, ◌≤◌, eqb, length, drop};
 ghost use Rattle.laws.specs.Lists.{all};
 ghost use Rattle.record.specs.Records.{record_size, word_at, none_decoded, decoded};
@@ -9,7 +10,7 @@ pub const RECORD: usize = 20;
 pub const ARGUMENTS: usize = 4;
 
 // An event: its kind and the first `count` of its arguments; those beyond the count are 0.
-#[derive(Drop)]
+#[derive(Clone, Copy)]
 pub struct Event {
     pub kind: u32,
     pub count: usize,
@@ -17,7 +18,7 @@ pub struct Event {
 }
 
 // What a record holds: an event, or (ok false) nothing that can be used.
-#[derive(Drop)]
+#[derive(Clone, Copy)]
 pub struct Decoded {
     pub ok: bool,
     pub event: Event,

@@ -1,4 +1,5 @@
 // The bytes of one row. For the writer of rows.
+#![tactic(auto)]
 ghost use Rattle.std.specs.Prelude.{◌≡◌, ◌≤◌};
 ghost use Rattle.meaning.specs.Limits.{variable_limit};
 ghost use Rattle.row.specs.RowBytes.{bytes_of};
@@ -9,7 +10,7 @@ use rows::Valuation;
 pub const ROW: usize = 24;
 
 // What a row says: the event number, the variable count, bytes 5 and 6, which are zero in every row that is written, and a value for each variable.
-#[derive(Drop)]
+#[derive(Clone, Copy)]
 pub struct RowFields {
     pub number: u32,
     pub variables: usize,

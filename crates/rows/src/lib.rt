@@ -1,4 +1,5 @@
 // Valuations in lent words, four to each, ascending and once each. For the rows of an event.
+#![tactic(auto)]
 ghost use Rattle.std.specs.Prelude.{◌≡◌, true, false, [], ◌∷◌, ◌++◌, suc, ◌+◌, ◌≤◌, ◌<◌, length, take, drop, get_or, set};
 ghost use Rattle.laws.specs.Order.{ascending};
 ghost use Rattle.laws.specs.Sets.{insert, within};
@@ -25,7 +26,7 @@ pub const WORDS: usize = ROWS * VALUES;
 pub type Words = [u32; WORDS];
 
 // Where a valuation stands, or where it would have to be put.
-#[derive(Drop)]
+#[derive(Clone, Copy)]
 struct Insertion {
     found: bool,
     at: usize,

@@ -1,5 +1,6 @@
 // The lent calls from Rattle, for a caller to copy: book B1 is read, document 01's six events are taken one by one, and their rows are printed.
 // The program keeps all memory: the words of book, state and tally, and a buffer for one row, 24 bytes.
+#![tactic(auto)]
 fn print(word: &[u8], number: u64) {
     io::write_all(1, word);
     io::print_decimal(1, number);

@@ -1,5 +1,6 @@
 // The second reader: number and place for any text of a book, by documents 01 and 02. One pass over the bytes, with what has been noted so
 // far in lent words; it shares no code with the reader and has no recursion. For the program `texts`, which compares the two.
+#![tactic(auto)]
 mod tokens;
 
 use noted::declared;
@@ -7,7 +8,7 @@ use noted::declared;
 // "at most 4,096 bytes"
 const TEXT_BYTES: usize = 4096;
 
-#[derive(Drop)]
+#[derive(Clone, Copy)]
 pub struct Verdict {
     pub number: usize,
     pub place: usize,

@@ -13,7 +13,7 @@ const BAD_COUNT: usize = 14;
 const SMALL: usize = 65536;
 
 // The answer, how many rows, and whether the rows of each book by themselves have space.
-#[derive(Drop)]
+#[derive(Clone, Copy)]
 pub struct Answer {
     pub answer: usize,
     pub rows: usize,

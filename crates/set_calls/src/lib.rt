@@ -1,5 +1,6 @@
 // Calls on a set of random books, each held to what the plain call does with each book alone from the state that the set has of it; its rows are noted,
 // book by book, for the second matcher. For the program `set_trials`; `cells` lays out the trial of one book.
+#![tactic(auto)]
 mod alone;
 mod chosen;
 mod left;
@@ -46,7 +47,7 @@ const BAD_COUNT: usize = 14;
 const NUMBER: usize = 1;
 
 // What a call hands back.
-#[derive(Drop)]
+#[derive(Clone, Copy)]
 struct Answered {
     answer: usize,
     rows: usize,

@@ -1,6 +1,7 @@
 // The listing of a set of books, for the programs `hall`, of `book0.txt` to `book7.txt` and standard input, and `halls`, of files by their names. Refused
 // texts are printed as `book`, index, number, place, and then no event is taken. Otherwise printed is for each record its number, the answer and the row
 // count, then its rows, each with its book.
+#![tactic(auto)]
 use lent_set::{BOOK_WORDS, BOOKS, STATE_WORDS, TALLY_WORDS};
 
 // "Event record, 20 bytes". What is lent for rows: 65,536 bytes for each book, of which 16 x 129 rows need 49,536.
@@ -14,7 +15,7 @@ const NAME: usize = 9;
 const DIGIT: usize = 4;
 
 // What became of the text of one book: it is in its words; it was refused; there is no such file, so that the set ends before it; or it cannot be read.
-#[derive(Drop)]
+#[derive(Clone, Copy)]
 enum Text {
     Accepted,
     Refused,
@@ -23,7 +24,7 @@ enum Text {
 }
 
 // How many texts were found, and whether there is a set: at least one text, and none refused.
-#[derive(Drop)]
+#[derive(Clone, Copy)]
 struct Found {
     count: usize,
     good: bool,

@@ -1,5 +1,6 @@
 // Random sets of 1 to 8 books on random traces: each call is held to the plain calls on each book alone, and the rows of each book to those of the second
 // matcher over the events that the set accepted; then the same events in another order. Prints what was compared.
+#![tactic(auto)]
 use lent_set::BOOKS;
 use set_calls::{ALL_BOOKS, ALL_STATES, SCORE};
 

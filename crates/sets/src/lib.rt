@@ -1,5 +1,6 @@
 // A set of disjuncts in lent words, ascending and once each: one put in its place, one set put among another. For the sets that one event
 // makes.
+#![tactic(auto)]
 ghost use Rattle.std.specs.Prelude.{◌≡◌, true, false, ◌∷◌, ◌++◌, suc, ◌+◌, ◌≤◌, ◌<◌, take, drop};
 ghost use Rattle.laws.specs.Order.{ascending};
 ghost use Rattle.laws.specs.Sets.{insert, insert_all, within};
@@ -13,7 +14,7 @@ use packed::{CAPACITY, NO_ROOM, Words};
 use slot::{AFTER, SAME};
 
 // Where an element stands, or where it would have to be put.
-#[derive(Drop)]
+#[derive(Clone, Copy)]
 struct Insertion {
     found: bool,
     at: usize,

@@ -1,4 +1,5 @@
 // What a disjunct says of one variable: a value, or free with up to six excluded values. For the disjunct; the order is in `ordering`.
+#![tactic(auto)]
 ghost use Rattle.std.specs.Prelude.{◌≡◌, true, false, [], ◌∷◌, ◌++◌, suc, ◌≤◌, ◌<◌, eqb, leb, length, take, drop};
 ghost use Rattle.laws.specs.Lists.{any};
 ghost use Rattle.meaning.specs.Labels as Labels;
@@ -9,7 +10,7 @@ ghost use Rattle.slot.specs.Slots.{view_slot, slot_of, smaller};
 pub const EXCLUSIONS: usize = 6;
 
 // The first `count` exclusions of a free variable, ascending; a bound one has its value and no exclusions.
-#[derive(Drop)]
+#[derive(Clone, Copy)]
 pub struct Slot {
     pub bound: bool,
     pub value: u32,
@@ -18,7 +19,7 @@ pub struct Slot {
 }
 
 // A slot with one more exclusion, or (ok false) the slot as it was, since it would be the seventh.
-#[derive(Drop)]
+#[derive(Clone, Copy)]
 pub struct Excluded {
     pub ok: bool,
     pub slot: Slot,

@@ -1,4 +1,5 @@
 // The state of a watch by value: the event number and the pool of disjuncts; taken into lent words and made of them.
+#![tactic(auto)]
 ghost use Rattle.std.specs.Prelude.{◌≡◌, [], map, ◌≤◌, ◌<◌, length, get_or, set};
 ghost use Rattle.meaning.specs.Room.{held_limit};
 ghost use Rattle.meaning.specs.Limits.{variable_limit};
@@ -16,7 +17,7 @@ pub const CAPACITY: usize = packed::CAPACITY;
 pub const EVENTS: u32 = 1000000;
 
 // The first `count` places are taken: the position and the disjunct in its label. The others are free.
-#[derive(Drop)]
+#[derive(Clone, Copy)]
 pub struct State {
     pub number: u32,
     pub count: usize,

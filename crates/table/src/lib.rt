@@ -1,4 +1,5 @@
 // The symbol table, by value, and the places of the declared names. For the readers of lines and patterns.
+#![tactic(auto)]
 ghost use Rattle.std.specs.Prelude.{◌≡◌, true, [], ◌∷◌, ◌+◌, ◌≤◌, ◌<◌, set};
 ghost use Rattle.laws.specs.Lists.{all};
 ghost use Rattle.meaning.specs.Meaning.{no_symbol};
@@ -17,13 +18,13 @@ pub const PARAMETERS: usize = 4;
 pub const NAMES: usize = VARIABLES + SYMBOLS;
 
 // A parameter of a symbol: tag 0, ignored; tag 1, the variable with that number; tag 2, that number itself, fixed.
-#[derive(Drop)]
+#[derive(Clone, Copy)]
 pub struct Parameter {
     pub tag: u32,
     pub number: u32,
 }
 
-#[derive(Drop)]
+#[derive(Clone, Copy)]
 pub struct Symbol {
     pub kind: u32,
     pub count: usize,
@@ -31,14 +32,14 @@ pub struct Symbol {
 }
 
 // The part of the text where a name is declared.
-#[derive(Drop)]
+#[derive(Clone, Copy)]
 pub struct Name {
     pub start: usize,
     pub size: usize,
 }
 
 // Variables' names come first, then symbols'.
-#[derive(Drop)]
+#[derive(Clone, Copy)]
 pub struct Table {
     pub variables: usize,
     pub count: usize,

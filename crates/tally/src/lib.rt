@@ -1,8 +1,9 @@
 // The tally: accepted events, refused events and rows written, by value, and lent in one function; a counter stops at the largest 64-bit value.
+#![tactic(auto)]
 ghost use Rattle.std.specs.Prelude.{◌≡◌};
 ghost use Rattle.tally.specs.Tallies.{capped, tallied};
 
-#[derive(Drop)]
+#[derive(Clone, Copy)]
 pub struct Tally {
     pub accepted: u64,
     pub refused: u64,

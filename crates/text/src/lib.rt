@@ -1,5 +1,6 @@
 // Scanning of lent bytes: what stands at a place, how far runs go, the gap after a word, words compared. For the readers of lines and
 // patterns; a word as a name, as a kind or as a fixed number is in `words`.
+#![tactic(auto)]
 ghost use Rattle.std.specs.Prelude.{◌≡◌, ◌&&◌, not, ◌≤◌, eqb, length};
 ghost use Rattle.form.specs.Text.{is_lower, is_digit, is_name_byte};
 ghost use Rattle.form.specs.Form.{same_word};
@@ -23,7 +24,7 @@ pub const ZERO: usize = b'0' as usize;
 const NINE: usize = b'9' as usize;
 
 // What a step of the reader gives: fault 0 and the place to go on from, or a fault's number and its place.
-#[derive(Drop)]
+#[derive(Clone, Copy)]
 pub struct Step {
     pub fault: usize,
     pub place: usize,

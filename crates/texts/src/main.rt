@@ -1,5 +1,6 @@
 // Every text that is one edit away from some books, and texts with two edits drawn at random, go to the reader and to the second reader:
 // numbers and places are compared, where one of the names was declared, and every symbol. Prints how many there were, and the first differences.
+#![tactic(auto)]
 use book::Book;
 use noted::declared;
 use scanner::Verdict;

@@ -1,5 +1,6 @@
 // The pure step of an event call: a record decoded, the checks 9 to 12, the new labels and the rows in lent words. No state is stored and nothing is
 // written to a row buffer here: the crate watch does that, once every check has passed.
+#![tactic(auto)]
 ghost use Rattle.std.specs.Prelude.{◌≡◌, true, false, ◌≤◌};
 ghost use Rattle.meaning.specs.Limits.{argument_limit};
 ghost use Rattle.record.specs.Records.{event_in, view_event};
@@ -15,7 +16,7 @@ use state::State;
 
 // What the pure step decides: the answer of the checks 9 to 12, whether it is acceptance, and how many disjuncts and valuations are in the lent
 // words.
-#[derive(Drop)]
+#[derive(Clone, Copy)]
 pub struct Stepped {
     pub answer: EventAnswer,
     pub accepted: bool,

@@ -1,5 +1,6 @@
 // Random books and traces: every row that the watch lists is compared with those of a second matcher, which works from whole traces
 // by the declarative meaning; then a reordered copy of each trace is run and partners are compared. Prints what was compared.
+#![tactic(auto)]
 use cells::SCORE;
 use tally::Tally;
 

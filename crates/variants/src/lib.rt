@@ -1,5 +1,6 @@
 // The edits of a text: a text without what follows a place, with a byte or the rest of a line left out or doubled, with two bytes
 // exchanged, with another byte in the place of one or before it. For the program `texts`.
+#![tactic(auto)]
 mod bases;
 
 use bases::NONE;
@@ -11,7 +12,7 @@ const OTHERS: usize = 23;
 pub const KINDS: usize = 6 + 2 * OTHERS;
 
 // What is kept of a text from its start, what follows then, and from where on the text goes on.
-#[derive(Drop)]
+#[derive(Clone, Copy)]
 pub struct Edit {
     pub keep: usize,
     pub first: u32,
