@@ -51,6 +51,7 @@ module _ {A : Type 0} where
 
   pub get_or_sets_same : (l : List A) (i : ℕ) (vs : List A) (j : ℕ) (d : A) → i + length vs ≤ length l → j < length vs
       → get_or (sets l i vs) (i + j) d ≡ get_or vs j d
+  get_or_sets_same l i [] j d h k = elim k [ ]
   get_or_sets_same l i (v ∷ vs) zero d h k =
       get_or_sets_other (set l i v) (suc i) vs (i + 0) d (inl (omega arith)) ∙ ap (λ n. get_or (set l i v) n d) (omega arith) ∙ get_or-set_same l i v d (omega arith)
   get_or_sets_same l i (v ∷ vs) (suc j) d h k =
@@ -87,12 +88,14 @@ module _ {A : Type 0} (cmp : A → A → Ordering) where
 
 module _ {A : Type 0} {cmp : A → A → Ordering} (o : IsOrder cmp) where
   -- in an ascending list each element before y stands before y
-  rising_until : (w y : A) (a b : List A) → rising cmp w (a ++ y ∷ b) ≡ true → (z : A) → Memᴰ z (w ∷ a) → cmp z y ≡ Ordering.lt
-  rising_until w y a b h z (Memᴰ.head e) = rw e (rising_before o w (a ++ y ∷ b) h y (Memᴰ.append_right a (Memᴰ.head refl)))
-  rising_until w y (v ∷ a) b h z (Memᴰ.tail m) = rising_until v y a b (and_true_split (is_less (cmp w v)) (rising cmp v (a ++ y ∷ b)) h).1 z m
+  rising_until : (z w y : A) (a b : List A) → rising cmp w (a ++ y ∷ b) ≡ true → Memᴰ z (w ∷ a) → cmp z y ≡ Ordering.lt
+  rising_until z _ y _ b h (Memᴰ.tail {xs = []} m) = elim m [ ]
+  rising_until z w y a b h (Memᴰ.head e) = rw e (rising_before o w (a ++ y ∷ b) h y (Memᴰ.append_right a (Memᴰ.head refl)))
+  rising_until z w y (v ∷ a) b h (Memᴰ.tail m) = rising_until z v y a b (and_true_split (is_less (cmp w v)) (rising cmp v (a ++ y ∷ b)) h).1 m
 
   ascending_until : (y : A) (a b : List A) → ascending cmp (a ++ y ∷ b) ≡ true → (z : A) → Memᴰ z a → cmp z y ≡ Ordering.lt
-  ascending_until y (w ∷ a) b h z m = rising_until w y a b h z m
+  ascending_until y [] b h z m = elim m [ ]
+  ascending_until y (w ∷ a) b h z m = rising_until z w y a b h m
 
   -- so x, which is not before the element at i, is after all before that one
   not_before : (x : A) (l : List A) (i : ℕ) (d : A) → ascending cmp l ≡ true → i < length l

@@ -142,6 +142,7 @@ module _ {A : Type 0} where
       ⊎_elim (λ e. (x, Memᴰ.head refl, e)) (λ e. let r = all_found f l e in (r.0, Memᴰ.tail r.1, r.2)) (and_false_split (f x) (all f l) h)
 
   pub any_of : (f : A → Bool) {x : A} {l : List A} → Memᴰ x l → f x ≡ true → any f l ≡ true
+  any_of f {l = []} x6 h = elim x6 [ ]
   any_of f {l = y ∷ l} (Memᴰ.head e) h = ap (λ b. b || any f l) (sym (ap f e) ∙ h)
   any_of f {l = y ∷ l} (Memᴰ.tail m) h = ap (λ b. f y || b) (any_of f m h) ∙ or-true (f y)
 
@@ -153,6 +154,7 @@ module _ {A : Type 0} where
       go false e = e
 
   pub all_at : (f : A → Bool) {x : A} {l : List A} → all f l ≡ true → Memᴰ x l → f x ≡ true
+  all_at f {l = []} h x6 = elim x6 [ ]
   all_at f {l = y ∷ l} h (Memᴰ.head e) = ap f e ∙ (and_true_split (f y) (all f l) h).0
   all_at f {l = y ∷ l} h (Memᴰ.tail m) = all_at f (and_true_split (f y) (all f l) h).1 m
 

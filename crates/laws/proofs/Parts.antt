@@ -116,6 +116,7 @@ unfolding pad
 mem_pad {A = A} P n d l h k x m = ⊎_elim (k x) (λ r. subst P (sym (copies (n - length l) r)) h) (Memᴰ.append_cases l m)
   where
     copies : {x : A} (n : ℕ) → Memᴰ x (replicate n d) → x ≡ d
+    copies Prim.Native.Nat.zero x3 = elim x3 [ ]
     copies (suc n) (Memᴰ.head e) = e
     copies (suc n) (Memᴰ.tail r) = copies n r
 

@@ -110,6 +110,7 @@ module _ {A : Type 0} {cmp : A → A → Ordering} (o : IsOrder cmp) where
 
   -- in an ascending list the head stands before every later element
   pub rising_before : (x : A) (l : List A) → rising cmp x l ≡ true → (a : A) → Memᴰ a l → cmp x a ≡ Ordering.lt
+  rising_before x [] h a x4 = elim x4 [ ]
   rising_before x (y ∷ l) h a (Memᴰ.head e) = rw e (less_lt (cmp x y) (and_true_split (is_less (cmp x y)) (rising cmp y l) h).0)
   rising_before x (y ∷ l) h a (Memᴰ.tail m) =
       let hs = and_true_split (is_less (cmp x y)) (rising cmp y l) h in
