@@ -417,6 +417,7 @@ well_formed_args e h = (and_true_split (leb 1 e.kind && leb e.kind 255 && leb (l
 -- each symbol of a reading holds on an event
 read_event : {tm : Tracematch} {σ : Valuation} {es : List Event} {w : List ℕ} {a : ℕ} → Reading tm σ es w → Memᴰ a w
     → (e : Event) × Memᴰ e es × (holds (get_or tm.symbols a no_symbol) e σ ≡ true)
+read_event {tm = tm} {σ = σ} {a = a} nothing x4 = elim x4 [ ]
 read_event (next {e = e} l h r) (Memᴰ.head p) = (e, Memᴰ.head refl, rw p h)
 read_event (next l h r) (Memᴰ.tail m) = let f = read_event r m in (f.0, Memᴰ.tail f.1, f.2)
 

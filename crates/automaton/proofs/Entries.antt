@@ -81,6 +81,7 @@ stays_bound D c (d ∷ ds) k l e =
 
 asked_bound : (D : Disjunct) (ds : List Demand) → consistent ds ≡ true → (d : Demand) → Memᴰ d ds → d.variable < length D
     → entry_of (met_all D ds) d.variable ≡ bound d.value
+asked_bound D [] k d x3 l = elim x3 [ ]
 asked_bound D (c ∷ ds) k d (Memᴰ.head e) l =
     let ks = and_true_split (all (compatible c) ds) (consistent ds) k in
     rw e (stays_bound (bind D c) c ds ks.0 (rw (length-set D c.variable (bound c.value), ← e) l)
