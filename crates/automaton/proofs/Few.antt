@@ -56,7 +56,7 @@ module _ (b : Book) (held : List Held) where
         let (q, k, _, (D, d, x)) = (rows_member b held e σ).0 m in
         let (E, f, _, y) = (step_set_member b held e q D).0 d in
         let started : Memᴰ E starts = source_start q E f in
-        (mem_gather _ σ _).1 (symbol_of b q, symbol_mem b sb q k, (mem_map (meeting (symbol_of b q)) σ starts).1 (E, started, x ∙ ap valuation_of y))
+        (mem_gather (λ x. map (meeting x) starts) σ _).1 (symbol_of b q, symbol_mem b sb q k, (mem_map (meeting (symbol_of b q)) σ starts).1 (E, started, x ∙ ap valuation_of y))
 
 pub few_rows : (b : Book) → sound_book b ≡ true → (held : List Held) → sound_held b held ≡ true → (e : Event) → length (rows b held e) ≤ 16 * 129
 few_rows b sb held sh e =

@@ -120,11 +120,12 @@ admits_before (z ∷ D) (suc u) zero x y h k = k
 admits_before (z ∷ D) (suc u) (suc v) x y h k = admits_before D u v x y h k
 
 -- so a disjunct that meets demands admits each of them
-pub meets_admits : (D : Disjunct) {ds : List Demand} {d : Demand} → meets_all D ds ≡ true → Memᴰ d ds
+pub meets_admits : {d : Demand} (D : Disjunct) {ds : List Demand} → meets_all D ds ≡ true → Memᴰ d ds
     → admits (entry_of D d.variable) d.value ≡ true
+meets_admits {d = d} D {ds = []} h x5 = elim x5 [ ]
 meets_admits D {ds = c ∷ ds} h (Memᴰ.head e) =
     rw e (and_true_split (admits (entry_of D c.variable) c.value) (meets_all (bind D c) ds) h).0
-meets_admits D {ds = c ∷ ds} {d} h (Memᴰ.tail m) =
+meets_admits {d} D {ds = c ∷ ds} h (Memᴰ.tail m) =
     let hs = and_true_split (admits (entry_of D c.variable) c.value) (meets_all (bind D c) ds) h in
     admits_before D c.variable d.variable d.value c.value hs.0 (meets_admits (bind D c) hs.1 m)
 

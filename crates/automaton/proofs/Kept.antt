@@ -31,7 +31,7 @@ use Rattle.meaning.specs.Labels.{sources, step_set, skip_set, new_label, new_hel
 use Rattle.meaning.specs.Room.{few_exclusions, set_room, skip_room, room}
 use Rattle.meaning.specs.Rows.{leaves_free}
 use Rattle.meaning.specs.Sound.{sound_entry, sound_piece, sound_held, event_limit, sound_state}
-use Rattle.meaning.specs.Runs.{Call, sent_event, was_taken, trace_of, run, state_after, held_after, Admissible, OrderlyFrom, Orderly}
+use Rattle.meaning.specs.Runs.{Call, plain_machine, sent_event, was_taken, trace_of, run, state_after, held_after, Admissible, OrderlyFrom, Orderly}
 use Rattle.meaning.proofs.Holds.{constraint_either}
 use Rattle.automaton.proofs.Orders.{held_order}
 use Rattle.automaton.proofs.Fits.{met_length, skip_length}
@@ -260,7 +260,9 @@ admissible_sound b sb s h e a =
 
 run_sound : (b : Book) → sound_book b ≡ true → {s : State} {cs : List Call} → sound_state b s ≡ true → OrderlyFrom b s cs
     → sound_state b (run (next b) s cs) ≡ true
-run_sound b sb h o = kept_along _ (λ s. sound_state b s ≡ true) each h o
+run_sound b sb h o =
+    kept_along (plain_machine (next b) (λ s e. e)) (λ s. sound_state b s ≡ true)
+    {P = λ s c. was_taken c ≡ true → Admissible b s (sent_event c)} each h o
   where
     each : (s : State) → sound_state b s ≡ true → (c : Call) → (was_taken c ≡ true → Admissible b s (sent_event c))
         → sound_state b (cond (was_taken c) (next b s (sent_event c)) s) ≡ true
