@@ -17,7 +17,6 @@ use Rattle.pattern.specs.Regex.{Regex, lit, cat, alt, star, plus, opt}
 use Rattle.pattern.specs.Positions.{size}
 use Rattle.form.specs.Text.{Bytes, space, is_lower, is_name_byte, is_name, Span}
 use Rattle.form.specs.Tokens.{Token, name, sign}
-use Rattle.form.specs.Phrase
 use Rattle.form.specs.Phrase.{Phrase, Level, atom, item, sequence, alternation, opening, closing, bar, asterisk, plus_sign, question}
 use Rattle.form.specs.Form.{same_word, distinct}
 use Rattle.form.specs.Scan.{go, at, past_end, run, is_space, spaces_end, name_end, part}

@@ -14,7 +14,6 @@ use Rattle.pattern.specs.Regex.{Regex, lit, cat, alt, star, plus, opt}
 use Rattle.pattern.specs.Positions.{size}
 use Rattle.form.specs.Text.{Bytes, space, is_lower, Span}
 use Rattle.form.specs.Tokens.{Token, name, sign, tokens}
-use Rattle.form.specs.Phrase
 use Rattle.form.specs.Phrase.{Phrase, Level, atom, item, sequence, alternation, opening, closing, bar, asterisk, plus_sign, question}
 use Rattle.form.specs.Form.{same_word}
 use Rattle.form.specs.Scan.{go, fail, at, past_end, spaces_end, name_end, part}

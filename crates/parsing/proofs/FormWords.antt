@@ -337,7 +337,7 @@ places_counted d =
   where
     symbols_counted : (p : ℕ) (vs : List Bytes) (ls : List SymbolLine) → length (symbol_spans p vs ls) ≡ length ls
     symbols_counted p vs [] = refl
-    symbols_counted p vs (l ∷ ls) = ap suc (symbols_counted _ vs ls)
+    symbols_counted p vs (l ∷ ls) = ap suc (symbols_counted (p + length (sym_line vs l)) vs ls)
 
 -- "variables from 0, then symbols", and the numbers that a pattern's names stand for: those of the lines, in their order
 pub names_words : (d : Declarations)

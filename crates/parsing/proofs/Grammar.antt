@@ -12,7 +12,6 @@ use Rattle.laws.proofs.Lists.{any_append, either}
 use Rattle.pattern.specs.Regex.{Regex}
 use Rattle.form.specs.Text.{Bytes, space, lf, is_lower, is_digit, is_name_byte}
 use Rattle.form.specs.Tokens.{Token, name, sign, ended, tokens_after, tokens}
-use Rattle.form.specs.Phrase
 use Rattle.form.specs.Phrase.{Phrase, Level, opening, closing, bar, asterisk, plus_sign, question}
 use Rattle.form.specs.Parse.{begins_item}
 use Rattle.parsing.proofs.TokenScan.{next_is, apart}

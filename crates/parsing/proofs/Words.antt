@@ -12,7 +12,7 @@ use Rattle.laws.specs.Lists.{all}
 use Rattle.laws.proofs.Lists.{and_true_split}
 use Rattle.form.specs.Text.{Bytes, space, lf}
 use Rattle.parsing.proofs.Scans.{run_le}
-use Rattle.form.specs.Scan.{Step, go, fail, at, past_end, run, part, is_space, is_word_byte, spaces_end, word_end, next_word}
+use Rattle.form.specs.Scan.{Step, go, fail, past_end, run, part, is_space, is_word_byte, spaces_end, word_end, next_word}
 
 -- a run over bytes that pass, up to one that does not
 pub run_over_law : (f : ℕ → Bool) (w rest : Bytes) → all f w ≡ true → run f rest ≡ 0 → run f (w ++ rest) ≡ length w
