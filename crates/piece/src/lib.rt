@@ -1,6 +1,7 @@
 // One fragment of a pattern: its masks, the symbols of its positions and the positions that follow each. Index i of an array is
 // position i + 1; what belongs to no position of the fragment is 0. For the reader of patterns.
 #![tactic(auto)]
+
 ghost use Rattle.std.specs.Prelude.{◌≡◌, map, ℕ, ◌+◌, ◌≤◌, get_or};
 ghost use Rattle.laws.specs.Bits.{bit, join};
 ghost use Rattle.laws.specs.Lists.{numbers};

@@ -2,30 +2,13 @@
 use mathlib.Core.Path.{◌≡◌}
 use mathlib.Core.Bool.{false}
 use Prim.Native.Nat.{ℕ, ◌-◌, ◌*◌, ◌^◌, ◌%◌, ◌≤◌}
-use borrow.Author.Rules.{rules}
 use lib.ListN.{replicate, set}
 use Rattle.pattern.specs.Regex.{lit}
 use Rattle.pattern.specs.Positions.{occurrence_limit}
 use Rattle.piece.specs.declared.Piece.{Piece}
 use Rattle.piece.specs.Pieces.{piece_of}
 use Rattle.piece.proofs.Laws.{lit_mask, lit_symbols}
-use Rattle.piece.proofs.literal.Statement.{statement}
-use Rattle.piece.proofs.literal.Tie as tie
-
-sub_at : tie.Need-overflow-sub-at
-sub_at c = search rules
-
-mul_y : tie.Need-overflow-mul-y
-mul_y c = search rules
-
-array_write_y : tie.Need-array-write-y
-array_write_y c = search rules
-
-cast_m : tie.Need-overflow-cast-m
-cast_m c = search rules
-
-shl_m : tie.Need-overflow-shl-m
-shl_m c = search rules
+use Rattle.piece.proofs.literal.Goals as goal
 
 -- the fragment as the code makes it
 unfoldable made : (k a bound : ℕ) → Piece
@@ -45,9 +28,6 @@ made_whole : (vars : ℕ → ℕ) (k a bound : ℕ) → 1 ≤ k → k ≤ occurr
 unfolding made piece_of
 made_whole vars k a bound low high e = rw (lit_mask k a high, e, lit_symbols k a occurrence_limit low high)
 
-returns : tie.Need-returns
+pub returns : goal.returns
 unfolding made
 returns c vars e = made_whole vars c.args.k c.args.a c.args.bound c.requires.0 c.requires.1 e
-
-pub literal_spec : {M : Type 1} → statement M
-literal_spec = tie.close (tie.spec sub_at mul_y array_write_y cast_m shl_m returns)
