@@ -18,7 +18,6 @@ use Rattle.meaning.specs.Book.{sound_parameter}
 use Rattle.form.specs.Text.{Bytes, Span}
 use Rattle.form.specs.Lines as Lines
 use Rattle.table.specs.declared.Parameter.{Parameter}
-use Rattle.table.specs.declared.Symbol.{Symbol}
 use Rattle.table.specs.declared.Table.{Table}
 use Rattle.table.specs.Tables.{parameter_of, symbol_of, name_of, table_of, view_parameter, view_symbol, no_name, span_of, view_table, inside, Ready}
 

@@ -1,5 +1,6 @@
 // The symbol table, by value, and the places of the declared names. For the readers of lines and patterns.
 #![tactic(auto)]
+
 ghost use Rattle.std.specs.Prelude.{◌≡◌, true, [], ◌∷◌, ◌+◌, ◌≤◌, ◌<◌, set};
 ghost use Rattle.laws.specs.Lists.{all};
 ghost use Rattle.meaning.specs.Meaning.{no_symbol};
