@@ -1,5 +1,6 @@
 // Larger fragments of a pattern as masks, from smaller ones: sequence, alternation, repetition. For the reader of patterns.
 #![tactic(auto)]
+
 ghost use Rattle.std.specs.Prelude.{◌≡◌, ℕ, ◌+◌, ◌≤◌};
 ghost use Rattle.pattern.specs.Regex.{Regex};
 ghost use Rattle.pattern.specs.Positions as Positions;
