@@ -1,5 +1,6 @@
 // The event record: 20 lent bytes to an event, or out of form. For the event call.
 #![tactic(auto)]
+
 ghost use Rattle.std.specs.Prelude.{◌≡◌, ◌+◌, ◌≤◌, eqb, length, drop};
 ghost use Rattle.laws.specs.Lists.{all};
 ghost use Rattle.record.specs.Records.{record_size, word_at, none_decoded, decoded};
