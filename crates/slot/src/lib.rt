@@ -1,5 +1,6 @@
 // What a disjunct says of one variable: a value, or free with up to six excluded values. For the disjunct; the order is in `ordering`.
 #![tactic(auto)]
+
 ghost use Rattle.std.specs.Prelude.{◌≡◌, true, false, [], ◌∷◌, ◌++◌, suc, ◌≤◌, ◌<◌, eqb, leb, length, take, drop};
 ghost use Rattle.laws.specs.Lists.{any};
 ghost use Rattle.meaning.specs.Labels as Labels;
