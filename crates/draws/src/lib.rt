@@ -1,5 +1,6 @@
 // Numbers that look random from a fixed start: a linear congruence with modulus 2^31 - 1. For the programs `damage` and `trials`.
 #![tactic(auto)]
+
 ghost use Rattle.std.specs.Prelude.{◌<◌};
 
 // The next state of the generator.

@@ -1,10 +1,10 @@
 -- The words of this crate that public statements use by name, written out: lists, parts of lists, orders. Each is told in the kit's own words
 -- alone, so that none can mean something else in a statement than it says here.
-use mathlib.Core.Path.{◌≡◌, refl, sym, ap, ◌∙◌}
+use mathlib.Core.Path.{◌≡◌, refl, sym, ◌∙◌}
 use mathlib.Core.Bool.{Bool, true, false, ◌&&◌, ◌||◌}
 use mathlib.Core.List.{List, [], ◌∷◌, ◌++◌}
 use mathlib.Core.Logic.{◌↔◌}
-use Prim.Native.Nat.{ℕ, suc, ◌+◌, ◌-◌, Ordering}
+use Prim.Native.Nat.{ℕ, suc, ◌-◌, Ordering}
 use lib.ListN.{length, take, drop, replicate}
 use Rattle.laws.specs.Lists.{any, all, keep, gather, numbers}
 use Rattle.laws.specs.Order.{flip, IsOrder, lex}

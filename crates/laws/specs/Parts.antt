@@ -1,5 +1,5 @@
 -- A part of a list written over, and a list padded to a fixed length.
-use Rattle.std.specs.Prelude.{List, ◌++◌, ℕ, ◌+◌, ◌-◌, length, take, drop, replicate}
+use Rattle.std.specs.Prelude.{List, ◌++◌, ℕ, ◌-◌, length, take, drop, replicate}
 
 module _ {A : Type 0} where
   -- l with b over its beginning

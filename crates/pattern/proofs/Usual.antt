@@ -3,18 +3,18 @@
 -- paths together that they spell the words; this fixes each mask bit by bit, also where one symbol occurs twice.
 use mathlib.Core.Path.{◌≡◌, refl, sym, ap, ap₂, subst, subst⁻¹, ◌∙◌}
 use mathlib.Core.Bool.{Bool, true, false, cond, ◌&&◌, ◌||◌}
-use mathlib.Core.List.{List, [], ◌∷◌, ◌++◌, append_assoc, append-nil}
+use mathlib.Core.List.{List, [], ◌∷◌, ◌++◌, append_assoc}
 use mathlib.Core.Logic.{◌↔◌, inl, inr}
 use Prim.Native.Nat.{ℕ, ◌+◌, ◌≤◌, ◌<◌}
 use native.Mathlib.Omega.{arith}
 use lib.Dec.{ltb}
-use borrow.Author.Tests.{ltb-true, ltb-false, lt-ltb, le-ltb}
-use Rattle.laws.specs.Bits.{bit, join}
+use borrow.Author.Tests.{ltb-true, ltb-false}
+use Rattle.laws.specs.Bits.{bit}
 use Rattle.pattern.proofs.Masks.{Among, beginning_among, ending_among, following_among}
-use Rattle.pattern.proofs.After.{After, Via, via, begin, follow, end}
+use Rattle.pattern.proofs.After.{After, via, begin, follow, end}
 use Rattle.pattern.proofs.Then.{Then}
 use Rattle.pattern.specs.Regex.{Regex, lit, cat, alt, star, plus, opt, Repeat, none, more, In, nullable}
-use Rattle.pattern.specs.Positions.{size, symbol_at, beginning, ending, following, given, Has}
+use Rattle.pattern.specs.Positions.{size, symbol_at, beginning, ending, following, Has}
 
 -- each occurrence written as its position, the leftmost being k
 abbrev pub marked : Regex → ℕ → Regex

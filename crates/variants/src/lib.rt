@@ -1,6 +1,7 @@
 // The edits of a text: a text without what follows a place, with a byte or the rest of a line left out or doubled, with two bytes
 // exchanged, with another byte in the place of one or before it. For the program `texts`.
 #![tactic(auto)]
+
 mod bases;
 
 use bases::NONE;
