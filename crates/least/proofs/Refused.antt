@@ -116,7 +116,7 @@ module _ (s : Bytes) (bytes : is_bytes s ≡ true) where
   short_of h = by (ltb text_limit (length s)) refl
     where
       by : (t : Bool) → ltb text_limit (length s) ≡ t → length s ≤ text_limit
-      by true e = absurd (h ((Accepted.too_long s).1 (ltb-true text_limit (length s) e)))
+      by true e = absurd (h ((Accepted.too_long_law s).1 (ltb-true text_limit (length s) e)))
       by false e = ltb-false text_limit (length s) e
 
   -- 0, 7 and 8: no fault
@@ -135,7 +135,7 @@ module _ (s : Bytes) (bytes : is_bytes s ≡ true) where
       λ d. inl ((listed_range number).1 (omega arith, omega arith))
 
   not_one : length s ≤ text_limit → number ≡ 1 → ⊥
-  not_one short e = omega (arith, (Accepted.too_long s).0 e)
+  not_one short e = omega (arith, (Accepted.too_long_law s).0 e)
 
   -- a text with a fault that is not too long: the number is a fault's
   number_listed : (q m : ℕ) → length s ≤ text_limit → Fault s q m → Memᴰ number fault_numbers
@@ -193,7 +193,7 @@ module _ (s : Bytes) (bytes : is_bytes s ≡ true) where
   )
 
   long_rule : ((number ≡ 1) × (place ≡ text_limit)) ↔ (text_limit < length s)
-  long_rule = (λ (e, f). (Accepted.too_long s).0 e, λ h. let e = (Accepted.too_long s).1 h in (e, sym (Bench.long_place s e)))
+  long_rule = (λ (e, f). (Accepted.too_long_law s).0 e, λ h. let e = (Accepted.too_long s).1 h in (e, sym (Bench.long_place s e)))
 
   pub refused : Rules s (place_of (reading s).answer) (number_of (reading s).answer)
   refused = rw (Bench.answer_number s, Bench.answer_place s) (record {

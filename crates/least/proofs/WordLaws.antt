@@ -61,7 +61,7 @@ word_first s p b w e =
 
 module _ {s : Bytes} {k i p : ℕ} (v : Word s k i p) where
   word_some : 1 ≤ length (word_at s p)
-  word_some = omega (arith, word_end_law s v, words.word_end (found s p).1)
+  word_some = omega (arith, word_end_law s v, words.word_end_law (found s p).1)
 
   name_number_law : name_fault s p (word_end s p) ≡ name_number (word_at s p)
   name_number_law = form_fault (found s p).1 word_some
