@@ -28,7 +28,6 @@ use Rattle.least.proofs.Stands.{Stand, on, stand, stands, stand_append, begins_s
 use Rattle.least.proofs.Spots.{word_spot}
 use Rattle.least.proofs.Sites.{Clean, match_end}
 use Rattle.least.proofs.HeaderPrefix.{Ready}
-use Rattle.least.proofs.PatternPrefix
 use Rattle.least.proofs.PatternPrefix.{PatternPrefix}
 use Rattle.least.proofs.TokenPlaces.{Apart, spaces_bytes, spaces_tokens, spaces_apart}
 use Rattle.least.proofs.TokenPlaces.{name_bytes_law, name_tokens, name_apart, name_inside, sign_tokens, sign_apart}

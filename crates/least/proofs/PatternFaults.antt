@@ -17,7 +17,6 @@ use Rattle.parsing.proofs.Scans.{at_end_law}
 use Rattle.parsing.proofs.Scans as Scans
 use Rattle.parsing.proofs.TokenScan.{inside_of, here_space}
 use Rattle.fault.specs.Places.{TokenAt, before, name_at, token_at, Begins}
-use Rattle.fault.specs.Fault
 use Rattle.fault.specs.Fault.{Fault, Least, NoFault}
 use Rattle.least.proofs.Stands.{stuck, on, less_open, signed, stand, stands, begins_stands, pattern_stands}
 use Rattle.least.proofs.Sites.{Clean, two_least, fault_inside}

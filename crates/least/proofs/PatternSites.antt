@@ -14,7 +14,6 @@ use Rattle.form.specs.Text.{Bytes, space, lf}
 use Rattle.form.specs.Scan.{at}
 use Rattle.parsing.proofs.TokenScan.{inside_of}
 use Rattle.fault.specs.Places.{Spot, passed, spot_at, On, Ends, Header, PatternLine, TokenAt, before, Pattern}
-use Rattle.fault.specs.Fault
 use Rattle.fault.specs.Fault.{TokenFault, Fault}
 use Rattle.least.proofs.Sites.{behind_header, Clean}
 use Rattle.least.proofs.Spots.{NotBehind, spot_step, spot_later, word_end_law, word_spot, word_same}

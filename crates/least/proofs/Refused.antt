@@ -193,7 +193,7 @@ module _ (s : Bytes) (bytes : is_bytes s ≡ true) where
   )
 
   long_rule : ((number ≡ 1) × (place ≡ text_limit)) ↔ (text_limit < length s)
-  long_rule = (λ (e, f). (Accepted.too_long_law s).0 e, λ h. let e = (Accepted.too_long s).1 h in (e, sym (Bench.long_place s e)))
+  long_rule = (λ (e, f). (Accepted.too_long_law s).0 e, λ h. let e = (Accepted.too_long_law s).1 h in (e, sym (Bench.long_place s e)))
 
   pub refused : Rules s (place_of (reading s).answer) (number_of (reading s).answer)
   refused = rw (Bench.answer_number s, Bench.answer_place s) (record {

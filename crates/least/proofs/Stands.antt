@@ -15,7 +15,6 @@ use Rattle.laws.proofs.Lists.{or_true_split, mem_gather, mem_index, either}
 use Rattle.pattern.specs.Regex.{Regex}
 use Rattle.form.specs.Text.{Bytes}
 use Rattle.form.specs.Tokens.{Token, name, sign}
-use Rattle.form.specs.Phrase
 use Rattle.form.specs.Phrase.{Phrase, Level, item, alternation, opening, closing, bar, asterisk, plus_sign, question}
 use Rattle.parsing.proofs.TokenScan.{by_equal}
 use Rattle.parsing.proofs.Complete.{is_postfix}

@@ -2,7 +2,7 @@
 -- alone, so that a book held otherwise (a mask in the other's field, a name's start for its size, numbers from 1) is refused here.
 use mathlib.Core.Path.{◌≡◌, refl}
 use mathlib.Core.Bool.{false}
-use mathlib.Core.List.{List, [], ◌∷◌, ◌++◌, map}
+use mathlib.Core.List.{List, [], ◌∷◌, map}
 use Prim.Native.Nat.{ℕ}
 use lib.Count.{ones}
 use lib.ListN.{replicate}
