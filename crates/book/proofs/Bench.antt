@@ -68,7 +68,7 @@ answer_of_law o = either (λ (r : Reading). r.answer ≡ answer_of o.number o.pl
 
 pub long_place : (s : Bytes) → (reading_of s).number ≡ 1 → text_limit ≡ (reading_of s).place
 unfolding reading_of
-long_place s e = rw (lt-ltb text_limit (length s) ((Accepted.too_long s).0 e))
+long_place s e = rw (lt-ltb text_limit (length s) ((Accepted.too_long_law s).0 e))
 
 told : (s : Bytes) → (number_of (reading s).answer ≡ (reading_of s).number) × (place_of (reading s).answer ≡ (reading_of s).place)
 told s =
@@ -289,7 +289,7 @@ variable_sizes p (w ∷ ws) = ap (length w ∷◌) (variable_sizes (p + length w
 
 symbol_sizes : (p : ℕ) (vs : List Bytes) (ls : List SymbolLine) → map (λ x. x.size) (symbol_spans p vs ls) ≡ map length (map (λ l. l.name) ls)
 symbol_sizes p vs [] = refl
-symbol_sizes p vs (l ∷ ls) = ap (length l.name ∷◌) (symbol_sizes _ vs ls)
+symbol_sizes p vs (l ∷ ls) = ap (length l.name ∷◌) (symbol_sizes (p + length (Text.sym_line vs l)) vs ls)
 
 span_sizes : (d : Declarations) → map (λ x. x.size) (spans d) ≡ map length (all_names d)
 span_sizes d =
@@ -334,11 +334,11 @@ sound s h =
 
 -- 1 exactly for a text over 4,096 bytes
 pub too_long_law : (s : Bytes) → (number_of (reading s).answer ≡ 1) ↔ (text_limit < length s)
-too_long_law s = rw (answer_number s) (Accepted.too_long s)
+too_long_law s = rw (answer_number s) (Accepted.too_long_law s)
 
 -- "1 first": whatever else the text is, and in no other case; "1, place 4,096"
 pub long_words : (s : Bytes) → ((number_of (reading s).answer ≡ 1) ↔ (4096 < length s)) × (4096 < length s → place_of (reading s).answer ≡ 4096)
-long_words s = (too_long_law s, λ h. answer_place s ∙ sym (long_place s ((Accepted.too_long s).1 h)))
+long_words s = (too_long_law s, λ h. answer_place s ∙ sym (long_place s ((Accepted.too_long_law s).1 h)))
 
 -- where 7 and 8 stand
 pub words_place : (s : Bytes) (d : Declarations) (r : Regex) (f : Shape s d r) → (number_of (reading s).answer ≡ 7) ⊎ (number_of (reading s).answer ≡ 8)

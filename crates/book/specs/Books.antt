@@ -1,5 +1,5 @@
 -- The book as the code holds it: every array padded with zeros to its length; and what a reading hands back.
-use Rattle.std.specs.Prelude.{cond, false, map, ◌++◌, ℕ, ◌+◌, eqb, get_or, replicate, take}
+use Rattle.std.specs.Prelude.{cond, false, map, ◌++◌, ℕ, eqb, get_or, replicate, take}
 use Rattle.std.specs.Int.Count.{ones}
 use Rattle.laws.specs.Lists.{numbers}
 use Rattle.laws.specs.Parts.{pad}

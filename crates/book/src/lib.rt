@@ -1,5 +1,6 @@
 // The book by value, the answers of a reading, and what a reading hands back. For the reader and the matcher.
 #![tactic(auto)]
+
 ghost use Rattle.std.specs.Prelude.{◌≡◌};
 ghost use Rattle.book.specs.Answers.{answer_of, number_of, place_of};
 ghost use Rattle.book.specs.Books.{empty_book, book_with};
