@@ -42,8 +42,7 @@ fn put_tally(words: &mut [u64], t: Tally)
 
 // A text read. Handed back is the number of the answer, 0 to 8; left are the book's words, the place beside the answer (0 where the text is accepted),
 // and how many positions begin and how many end a word. A refused text leaves a book of zeros and no counts.
-#[unsafe(no_mangle)]
-pub extern "C" fn watch_read(
+pub fn watch_read(
     text: &[u8],
     book: &mut [u32; BOOK_WORDS],
     place: &mut usize,
@@ -71,8 +70,7 @@ pub extern "C" fn watch_read(
 
 // The name with a number: variables from 0, then symbols. Left are its start in the text and its size, both 0 for a number that is not declared and for a
 // text that is refused.
-#[unsafe(no_mangle)]
-pub extern "C" fn watch_name(text: &[u8], number: usize, start: &mut usize, size: &mut usize)
+pub fn watch_name(text: &[u8], number: usize, start: &mut usize, size: &mut usize)
     ensures { (start.new ≡ (name_place text.now number).start)
         × (size.new ≡ (name_place text.now number).size) }
 {
@@ -82,8 +80,7 @@ pub extern "C" fn watch_name(text: &[u8], number: usize, start: &mut usize, size
 }
 
 // A fresh state: every word is written.
-#[unsafe(no_mangle)]
-pub extern "C" fn watch_fresh(state: &mut [u32; STATE_WORDS])
+pub fn watch_fresh(state: &mut [u32; STATE_WORDS])
     ensures { state.new ≡ state_words fresh_state }
 {
     state_block::put_fresh(state);
@@ -91,8 +88,7 @@ pub extern "C" fn watch_fresh(state: &mut [u32; STATE_WORDS])
 
 // One event. Handed back is the number of the answer, 0 or 9 to 13; left are the count of rows, the rows in the lent buffer from the place on, the
 // tally and the next state. On refusal the count is 0 and all else stays but the refused counter.
-#[unsafe(no_mangle)]
-pub extern "C" fn watch_event(
+pub fn watch_event(
     book: &[u32; BOOK_WORDS],
     state: &mut [u32; STATE_WORDS],
     bytes: &[u8],

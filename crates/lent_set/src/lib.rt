@@ -175,8 +175,7 @@ fn fresh_all(states: &mut [u32], count: usize)
 
 // Fresh states for a set. Handed back is the number of the answer: 14 for a set of no books or more than 8, 9 where a state is not wholly lent, and then
 // nothing is written; or 0.
-#[unsafe(no_mangle)]
-pub extern "C" fn watch_set_fresh(states: &mut [u32], count: usize) -> usize
+pub fn watch_set_fresh(states: &mut [u32], count: usize) -> usize
     ensures { set_fresh states.old count ≡ record { number = result; states = states.new } }
 {
     if bad_count(count) {
@@ -191,8 +190,7 @@ pub extern "C" fn watch_set_fresh(states: &mut [u32], count: usize) -> usize
 
 // One event over a set. Handed back is the number of the answer, 0 or 9 to 14; left are the count of rows, the rows in the lent buffer from the place on, in
 // book order and with the book's number in byte 5, the tally and the next states. On refusal the count is 0 and all else stays but the refused counter.
-#[unsafe(no_mangle)]
-pub extern "C" fn watch_set_event(
+pub fn watch_set_event(
     books: &[u32],
     states: &mut [u32],
     count: usize,
