@@ -1,4 +1,4 @@
-/* The watch for programs in C99 and C++: the calls of liblent.a (`rt staticlib lent`, x86-64), over memory that the caller lends.
+/* The watch for programs in C99 and C++: the calls of liblent.a (`bindings/archive` makes it, x86-64), over memory that the caller lends.
  * A book declares variables, symbols and a pattern; each event is taken as it comes, and its rows are the valuations for which
  * the pattern has just been completed. Numbers, places and formats are those of document 01 with change 1 of document 02.
  *

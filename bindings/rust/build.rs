@@ -1,4 +1,4 @@
-//! Links liblent.a, for whoever builds this crate: `rt staticlib lent` makes it in the repository's target/staticlib. Set
+//! Links liblent.a, for whoever builds this crate: `bindings/archive` makes it in the repository's target/staticlib. Set
 //! WATCH_LIB_DIR to the folder that has it where it is elsewhere.
 use std::env;
 use std::path::PathBuf;
@@ -11,7 +11,7 @@ fn main() {
     let archive = folder.join("liblent.a");
     println!("cargo:rerun-if-changed={}", archive.display());
     if !archive.exists() {
-        eprintln!("there is no {}: make it by `rt staticlib lent`, or set WATCH_LIB_DIR", archive.display());
+        eprintln!("there is no {}: make it by `bindings/archive`, or set WATCH_LIB_DIR", archive.display());
         std::process::exit(1);
     }
     println!("cargo:rustc-link-search=native={}", folder.display());
