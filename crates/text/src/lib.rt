@@ -1,6 +1,7 @@
 // Scanning of lent bytes: what stands at a place, how far runs go, the gap after a word, words compared. For the readers of lines and
 // patterns; a word as a name, as a kind or as a fixed number is in `words`.
 #![tactic(auto)]
+
 ghost use Rattle.std.specs.Prelude.{◌≡◌, ◌&&◌, not, ◌≤◌, eqb, length};
 ghost use Rattle.form.specs.Text.{is_lower, is_digit, is_name_byte};
 ghost use Rattle.form.specs.Form.{same_word};
