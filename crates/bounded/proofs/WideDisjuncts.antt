@@ -85,7 +85,7 @@ module _ (D : Disjunct) (v : ℕ) (h : v < length D) where
   unfolding wide pad
   wide_set x = set-append_left D _ v x h ∙ ap (λ k. set D v x ++ replicate (4 - k) (free [])) (sym (length-set D v x))
 
--- demands on the first n variables only, as `inRange` asks
+-- demands on the first n variables only, as `in_range` asks
 abbrev within : ℕ → List Demand → Bool
 within n ds = all (λ d. ltb d.variable n) ds
 
