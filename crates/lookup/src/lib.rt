@@ -1,5 +1,6 @@
 // A word looked up among the declared names, by their places in the text. For the readers of lines and patterns.
 #![tactic(auto)]
+
 ghost use Rattle.std.specs.Prelude.{◌≡◌, true, map, ◌-◌, ◌≤◌, length, take, drop};
 ghost use Rattle.laws.specs.Lists.{all};
 ghost use Rattle.form.specs.Scan.{part};
