@@ -1,5 +1,6 @@
 // A word of a text as a name, as a kind, and as a fixed number. For the readers of lines and patterns.
 #![tactic(auto)]
+
 ghost use Rattle.std.specs.Prelude.{◌≡◌, true, ◌≤◌, ◌+◌, length, drop};
 ghost use Rattle.laws.specs.Lists.{all};
 ghost use Rattle.form.specs.Text.{is_digit, is_name_byte, number_digits};
