@@ -1,6 +1,7 @@
 // Disjuncts in lent words: to each of a disjunct's variables a code and its value, or a code and its exclusions. Only `get` and `put` know
 // the words. For the sets that one event makes, and for the state.
 #![tactic(auto)]
+
 ghost use Rattle.std.specs.Prelude.{◌≡◌, false, [], ◌+◌, ◌*◌, ◌≤◌, ◌<◌, length, get_or, set};
 ghost use Rattle.meaning.specs.Room.{held_limit};
 ghost use Rattle.meaning.specs.Limits.{variable_limit};

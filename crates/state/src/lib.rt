@@ -1,5 +1,6 @@
 // The state of a watch by value: the event number and the pool of disjuncts; taken into lent words and made of them.
 #![tactic(auto)]
+
 ghost use Rattle.std.specs.Prelude.{◌≡◌, [], map, ◌≤◌, ◌<◌, length, get_or, set};
 ghost use Rattle.meaning.specs.Room.{held_limit};
 ghost use Rattle.meaning.specs.Limits.{variable_limit};
