@@ -61,11 +61,11 @@ few_disjunct d h = few_slots d.vars h
 
 -- what the type tells of an array of slots
 six_slots : (l : List Slot) (us : List Val)
-    → shadow (each (slots.the_field).row.Denot (slots.the_field).row.own_val (map (slots.the_field).into l) us) → all six_exclusions l ≡ true
+    → shadow (each (slots.the_row).Denot (slots.the_row).own_val l us) → all six_exclusions l ≡ true
 six_slots [] us h = refl
 six_slots (s ∷ l) [] h = absurd h
 six_slots (s ∷ l) (u ∷ us) h =
-    ap₂ ◌&&◌ (le-leb (length s.excluded) 6 (omega (arith, length-map s.excluded (λ v. v), h.0.1.1.1.1.1.0.1.0.1))) (six_slots l us h.1)
+    ap₂ ◌&&◌ (le-leb (length s.excluded) 6 (omega (arith, h.0.1.1.1.1.1.0.1.0.1))) (six_slots l us h.1)
 
 -- the arrays of a disjunct have their lengths
 pub record Sized (d : Disjunct) : Type 0 where
@@ -76,11 +76,11 @@ pub record Sized (d : Disjunct) : Type 0 where
 pub sized : (d : Disjunct) {vs : List Val} → Is disjuncts.the_row d vs → Sized d
 sized d h =
     let a = h.1.1.0 in
-    record { four = sym (length-map d.vars (slots.the_field).into) ∙ a.1.0.1; six = six_slots d.vars a.0 a.1.1 }
+    record { four = a.1.0.1; six = six_slots d.vars a.0 a.1.1 }
 
 -- of each disjunct of an array: with a the array's part of `c.good`, us is a.0 and the fact a .1 .1
 pub sized_in : (l : List Disjunct) (us : List Val)
-    → shadow (each (disjuncts.the_field).row.Denot (disjuncts.the_field).row.own_val (map (disjuncts.the_field).into l) us)
+    → shadow (each (disjuncts.the_row).Denot (disjuncts.the_row).own_val l us)
     → (d : Disjunct) → Memᴰ d l → Sized d
 sized_in [] us h d m = absurd (Memᴰ.not-nil m)
 sized_in (x ∷ l) [] h d m = absurd h

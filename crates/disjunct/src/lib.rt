@@ -1,5 +1,6 @@
 // The disjunct: what it says of each of four variables; meeting and exclusion. For the matcher's sets; the order is in `ordering`.
 #![tactic(auto)]
+
 ghost use Rattle.std.specs.Prelude.{◌≡◌, true, false, ◌≤◌, ◌<◌, leb, length, take};
 ghost use Rattle.laws.specs.Lists.{any};
 ghost use Rattle.meaning.specs.Labels as Labels;
