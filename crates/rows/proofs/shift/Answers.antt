@@ -1,0 +1,16 @@
+-- `rows::shift` meets its contract. The loop's invariant: the valuations from i on are moved up by one, the others as they were.
+use mathlib.Core.Path.{sym, ap, ◌∙◌}
+use mathlib.Core.List.{[]}
+use native.Mathlib.Omega.{arith}
+use lib.ListN.{set}
+use Rattle.laws.proofs.Turns.{moved_more}
+use Rattle.rows.specs.Valuations.{valuations_in}
+use Rattle.rows.proofs.Valuations.{in_length}
+use Rattle.rows.proofs.shift.Goals as goal
+
+pub loop-i-preserved : goal.loop-i-preserved
+loop-i-preserved c =
+    let v = c.loop-i.words in
+    let w = c.args.words.now in
+    let put = c.put.ensures ∙ ap (set (valuations_in v) c.loop-i.i) c.get-x.ensures in
+    (omega arith, moved_more [] c.loop-i.invariant.1 (omega (arith, in_length w)) (in_length v ∙ sym (in_length w)) (omega arith) put)
