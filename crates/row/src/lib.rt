@@ -1,5 +1,6 @@
 // The bytes of one row. For the writer of rows.
 #![tactic(auto)]
+
 ghost use Rattle.std.specs.Prelude.{◌≡◌, ◌≤◌};
 ghost use Rattle.meaning.specs.Limits.{variable_limit};
 ghost use Rattle.row.specs.RowBytes.{bytes_of};
