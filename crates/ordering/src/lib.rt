@@ -1,5 +1,6 @@
 // The order of disjuncts: by values, then by exclusion lists; first of what two of them say of one variable. For the matcher's sets.
 #![tactic(auto)]
+
 ghost use Rattle.std.specs.Prelude.{◌≡◌, map};
 ghost use Prim.Native.Nat.{compare};
 ghost use Rattle.laws.specs.Order.{lex};
