@@ -1,31 +1,28 @@
 -- What the types alone tell of a slot, a state and a book: the lengths of their arrays, and that their numbers are words. The kit
 -- says it of a parameter as a part of `c.good`. For the functions of this crate and for the event call.
-use mathlib.Core.Path.{◌≡◌, refl, sym, ap₂, ◌∙◌}
+use mathlib.Core.Path.{◌≡◌, refl, ap₂}
 use mathlib.Core.Bool.{true, ◌&&◌}
-use mathlib.Core.List.{List, [], ◌∷◌, map, Memᴰ}
+use mathlib.Core.List.{List, [], ◌∷◌, Memᴰ}
 use Prim.Native.Nat.{ℕ, ◌^◌}
 use borrow.Author.Tests.{lt-ltb}
 use denote.Laws.{Is}
 use denote.Shadow.{shadow}
 use denote.Array.{each}
-use denote.Struct.Field.{u32-field}
+use denote.Builtin.{u32}
 use mir.Val.{Val}
-use lib.ListN.{length, length-map}
+use lib.ListN.{length}
 use Rattle.laws.specs.Lists.{all}
 use Rattle.meaning.specs.Events.{word32}
-use Rattle.table.specs.contracts.Symbol as symbols
-use Rattle.table.specs.contracts.Name as names
 use Rattle.slot.specs.declared.Slot.{Slot}
 use Rattle.slot.specs.contracts.Slot as slots
 use Rattle.disjunct.specs.declared.Disjunct.{Disjunct}
 use Rattle.disjunct.proofs.Disjuncts.{sized_in}
-use Rattle.disjunct.specs.contracts.Disjunct as disjuncts
 use Rattle.book.specs.declared.Book.{Book}
 use Rattle.book.specs.contracts.Book as books
 use Rattle.state.specs.declared.State.{State}
 use Rattle.state.specs.contracts.State as states
 
-words : (xs : List ℕ) (us : List Val) → shadow (each ℕ u32-field.row.own_val (map u32-field.into xs) us) → all word32 xs ≡ true
+words : (xs : List ℕ) (us : List Val) → shadow (each u32.Denot u32.own_val xs us) → all word32 xs ≡ true
 words [] us h = refl
 words (x ∷ xs) [] h = absurd h
 words (x ∷ xs) (u ∷ us) h = ap₂ ◌&&◌ (lt-ltb x (2 ^ 32) h.0.1) (words xs us h.1)
@@ -50,8 +47,8 @@ pub state_sized : (s : State) {vs : List Val} → Is states.the_row s vs → Sta
 state_sized s h =
     let a = h.1.1.1.1.1.0 in
     record {
-      positions = sym (length-map s.positions u32-field.into) ∙ h.1.1.1.1.0.1.0.1;
-      pool = sym (length-map s.pool (disjuncts.the_field).into) ∙ a.1.0.1;
+      positions = h.1.1.1.1.0.1.0.1;
+      pool = a.1.0.1;
       vars = λ d m. (sized_in s.pool a.0 a.1.1 d m).four;
     }
 
@@ -67,8 +64,8 @@ book_sized b h =
     let t = h.1.1.1.1.1 in
     let f = t.1.1.1.1.1 in
     record {
-      names = sym (length-map b.names (names.the_field).into) ∙ h.1.1.1.1.0.1.0.1;
-      table = sym (length-map b.table (symbols.the_field).into) ∙ t.0.1.0.1;
-      occurrences = sym (length-map b.occurrences u32-field.into) ∙ t.1.1.0.1.0.1;
-      follows = sym (length-map b.follows u32-field.into) ∙ f.0.1.0.1;
+      names = h.1.1.1.1.0.1.0.1;
+      table = t.0.1.0.1;
+      occurrences = t.1.1.0.1.0.1;
+      follows = f.0.1.0.1;
     }

@@ -1,5 +1,6 @@
 // Whether a book and a state, filled in any way, are sound: answer 9 otherwise. For the event call.
 #![tactic(auto)]
+
 ghost use Rattle.std.specs.Prelude.{◌≡◌, ◌&&◌, ◌≤◌, leb, ltb, take};
 ghost use Rattle.laws.specs.Lists.{all};
 ghost use Rattle.pattern.specs.Positions.{occurrence_limit};
