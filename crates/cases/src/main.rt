@@ -3,6 +3,7 @@
 // printed, two rows where their counter has room for one, an unsound book, and counters that count several at once and stop at the largest
 // 64-bit value. Before them readings and names by the public calls.
 #![tactic(auto)]
+
 mod full;
 mod parts;
 mod score;
@@ -11,6 +12,7 @@ use book::Book;
 use calls::Taken;
 use record::RECORD;
 use state::State;
+use std::io;
 use tally::Tally;
 
 // How many events there are, of which the last three are of a run of their own; the buffer that is lent for rows, and the largest value
@@ -55,32 +57,32 @@ fn taken_at(i: usize, book: Book, state: State, tally: Tally) -> Taken {
     handed::counted_event(book, state, &bytes, &mut rows, place_of(i), tally)
 }
 
-fn number(n: u64, behind: &[u8]) {
-    io::print_decimal(1, n);
-    io::write_all(1, behind);
+fn number(rt: &impl Print, n: u64, behind: &str) -> io::Result<()> {
+    print!(rt; "{n}{behind}")
 }
 
-fn counters(t: Tally) {
-    number(t.accepted, b" ");
-    number(t.refused, b" ");
-    number(t.rows, b"\n");
+fn counters(rt: &impl Print, t: Tally) -> io::Result<()> {
+    number(rt, t.accepted, " ")?;
+    number(rt, t.refused, " ")?;
+    number(rt, t.rows, "\n")
 }
 
 // A line for each event from one number up to another: answer, rows, and the tally.
-fn events(book: Book, from: usize, to: usize, counted: Tally) {
+fn events(rt: &impl Print, book: Book, from: usize, to: usize, counted: Tally) -> io::Result<()> {
     let mut state = handed::fresh();
     let mut tally = counted;
     let mut i = from;
     while i < to {
         let r = taken_at(i, book, state, tally);
         let a = r.answer;
-        number(watch::number_of(a) as u64, b" ");
-        number(r.rows as u64, b": ");
-        counters(r.tally);
+        number(rt, watch::number_of(a) as u64, " ")?;
+        number(rt, r.rows as u64, ": ")?;
+        counters(rt, r.tally)?;
         state = r.state;
         tally = r.tally;
         i += 1;
     }
+    Ok(())
 }
 
 // A tally with room for one row more.
@@ -93,50 +95,56 @@ fn almost() -> Tally {
 }
 
 // Counters that count several at once, that come to the largest value, and stay there.
-fn counts() {
-    counters(handed::count(Tally::none(), 3, 4, 5));
+fn counts(rt: &impl Print) -> io::Result<()> {
+    counters(rt, handed::count(Tally::none(), 3, 4, 5))?;
     let t = Tally {
         accepted: LARGEST - 1,
         refused: LARGEST,
         rows: 0,
     };
     let one = handed::count(t, 1, 1, 5);
-    counters(one);
-    counters(handed::count(one, 1, 0, LARGEST));
+    counters(rt, one)?;
+    counters(rt, handed::count(one, 1, 0, LARGEST))
 }
 
 // A name of a text: start, size and bytes; of a number not declared 0, 0 and nothing.
-fn named(text: &[u8], n: usize) {
+fn named(rt: &impl Print, text: &[u8], n: usize) -> io::Result<()> {
     let p = watch::name_place(text, n);
-    number(p.start as u64, b" ");
-    number(p.size as u64, b" ");
-    io::write_all(1, watch::name(text, n));
-    io::write_all(1, b"\n");
+    number(rt, p.start as u64, " ")?;
+    number(rt, p.size as u64, " ")?;
+    rt.write_all(watch::name(text, n))?;
+    rt.println("")
 }
 
 // The book of a text; its counts of beginning and of ending positions are printed.
-fn read(text: &[u8]) -> Book {
+fn read(rt: &impl Print, text: &[u8]) -> io::Result<Book> {
     let r = watch::read(text);
-    number(r.begin_count as u64, b" ");
-    number(r.end_count as u64, b"\n");
-    r.book
+    number(rt, r.begin_count as u64, " ")?;
+    number(rt, r.end_count as u64, "\n")?;
+    Ok(r.book)
 }
 
 // The book of document 01, and some of its names: a variable's, a symbol's, and none.
-fn told(text: &[u8]) -> Book {
-    named(text, 1);
-    named(text, 4);
-    named(text, 5);
-    read(text)
+fn told(rt: &impl Print, text: &[u8]) -> io::Result<Book> {
+    named(rt, text, 1)?;
+    named(rt, text, 4)?;
+    named(rt, text, 5)?;
+    read(rt, text)
 }
 
-fn main() {
-    read(b"vars d s\nsym a 123 _ s d\nsym b 209 d\nmatch a (b? | a)\n");
-    let book = told(b"vars d s\nsym load 1 d s\nsym drop 2 d\nsym clean 3 d\nmatch load drop+\n");
-    events(book, 0, EVENTS - LAST, Tally::none());
-    events(book, EVENTS - LAST, EVENTS, almost());
-    events(read(b""), 0, 2, Tally::none());
-    counts();
-    score::report(full::filled(book, score::none()));
-    score::report(parts::tried(score::none()));
+fn main(rt: HostRuntime) -> io::Result<()> {
+    read(
+        &rt,
+        b"vars d s\nsym a 123 _ s d\nsym b 209 d\nmatch a (b? | a)\n",
+    )?;
+    let book = told(
+        &rt,
+        b"vars d s\nsym load 1 d s\nsym drop 2 d\nsym clean 3 d\nmatch load drop+\n",
+    )?;
+    events(&rt, book, 0, EVENTS - LAST, Tally::none())?;
+    events(&rt, book, EVENTS - LAST, EVENTS, almost())?;
+    events(&rt, read(&rt, b"")?, 0, 2, Tally::none())?;
+    counts(&rt)?;
+    score::report(&rt, full::filled(book, score::none()))?;
+    score::report(&rt, parts::tried(score::none()))
 }

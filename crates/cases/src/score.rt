@@ -1,4 +1,5 @@
 // Results counted, for the parts alone and for the full pool.
+use std::io;
 
 // How many results were right, and how many wrong.
 #[derive(Clone, Copy)]
@@ -34,9 +35,8 @@ pub fn none() -> Score {
     Score { right: 0, wrong: 0 }
 }
 
-pub fn report(s: Score) {
-    io::print_decimal(1, s.right);
-    io::write_all(1, b" right, ");
-    io::print_decimal(1, s.wrong);
-    io::write_all(1, b" wrong\n");
+pub fn report(rt: &impl Print, s: Score) -> io::Result<()> {
+    let right = s.right;
+    let wrong = s.wrong;
+    println!(rt; "{right} right, {wrong} wrong")
 }

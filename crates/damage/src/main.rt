@@ -1,6 +1,7 @@
 // Damaged books, states, records, places, buffers and tallies, from a generator with a fixed start, are lent to the event call, and all
 // that it leaves is compared with what document 01 says. Prints how many cases there were, how they were answered, and the differences.
 #![tactic(auto)]
+
 ghost use Rattle.std.specs.Prelude.{◌≤◌};
 
 use book::Book;
@@ -12,6 +13,7 @@ use expected::lending::Space;
 use expected::{leaving, lending, moves};
 use row::ROW;
 use state::State;
+use std::io;
 use tally::Tally;
 use watch::Taken;
 
@@ -111,7 +113,7 @@ fn one(seed: u64, read: Book, score: Score) -> Score {
     let want = leaving::buffer_after(rows, l.rows, m, s.place);
     let r = call(book, state, lent, &mut rows, s, tally);
     let a = r.answer;
-    let good = as_told(r, l, book) & check::same(&rows, &want);
+    let good = as_told(r, l, book) & (rows == want);
     scored(score, watch::number_of(a), good)
 }
 
@@ -145,20 +147,19 @@ fn reached(book: Book) -> bool {
     equality::states(s, a) & equality::states(z, b)
 }
 
-fn line(n: u32, word: &[u8]) {
-    io::print_decimal(1, n as u64);
-    io::write_all(1, word);
+fn line(rt: &impl Print, n: u32, word: &str) -> io::Result<()> {
+    println!(rt; "{n}{word}")
 }
 
-fn report(s: Score) {
-    line(s.cases, b" cases\n");
-    line(s.accepted, b" answered 0\n");
-    line(s.unsound, b" answered 9\n");
-    line(s.out_of_form, b" answered 10\n");
-    line(s.too_many, b" answered 11\n");
-    line(s.no_room, b" answered 12\n");
-    line(s.no_space, b" answered 13\n");
-    line(s.differences, b" differences\n");
+fn report(rt: &impl Print, s: Score) -> io::Result<()> {
+    line(rt, s.cases, " cases")?;
+    line(rt, s.accepted, " answered 0")?;
+    line(rt, s.unsound, " answered 9")?;
+    line(rt, s.out_of_form, " answered 10")?;
+    line(rt, s.too_many, " answered 11")?;
+    line(rt, s.no_room, " answered 12")?;
+    line(rt, s.no_space, " answered 13")?;
+    line(rt, s.differences, " differences")
 }
 
 fn start() -> Score {
@@ -174,7 +175,7 @@ fn start() -> Score {
     }
 }
 
-fn main() {
+fn main(rt: HostRuntime) -> io::Result<()> {
     let r = watch::read(
         b"vars d s\nsym open 5 d\nsym fill 1 d s\nsym seal 6 d s\nmatch open seal\n",
     );
@@ -190,5 +191,5 @@ fn main() {
         s = one(seed, book, s);
         i += 1;
     }
-    report(s);
+    report(&rt, s)
 }

@@ -2,6 +2,7 @@
 // word and byte that it leaves is compared with what document 01 and the description of the blocks say. Prints how many cases there were, how they
 // were answered, the rows, how many events had several, how many states came to hold fewer disjuncts, and the differences.
 #![tactic(auto)]
+
 ghost use Rattle.std.specs.Prelude.{◌≤◌};
 
 use block_cases::layout::{BOOK_WORDS, STATE_WORDS};
@@ -12,6 +13,7 @@ use corrupted::records::Lent;
 use corrupted::sizes::RECORD_ROOM;
 use oracle::moves;
 use oracle::moves::{Move, Outcome};
+use std::io;
 
 const CASES: u32 = 40000;
 
@@ -87,7 +89,7 @@ fn same_state(a: &[u32; STATE_WORDS], b: &[u32; STATE_WORDS]) -> bool {
 }
 
 fn same_rows(a: &[u8; BUFFER], b: &[u8; BUFFER]) -> bool {
-    check::same(a, b)
+    a == b
 }
 
 // Whether the call leaves what it must: the answer, the count of rows, the words of book, state and tally, and the buffer.
@@ -141,23 +143,22 @@ fn one(seed: u64, score: &mut [u32; SCORES]) {
     }
 }
 
-fn line(n: u32, word: &[u8]) {
-    io::print_decimal(1, n as u64);
-    io::write_all(1, word);
+fn line(rt: &impl Print, n: u32, word: &str) -> io::Result<()> {
+    println!(rt; "{n}{word}")
 }
 
-fn report(score: &[u32; SCORES]) {
-    line(CASES, b" cases\n");
-    line(score[0], b" answered 0\n");
-    line(score[9], b" answered 9\n");
-    line(score[10], b" answered 10\n");
-    line(score[11], b" answered 11\n");
-    line(score[12], b" answered 12\n");
-    line(score[13], b" answered 13\n");
-    line(score[ROWS], b" rows\n");
-    line(score[SEVERAL], b" events with several rows\n");
-    line(score[FEWER], b" states with fewer disjuncts\n");
-    line(score[DIFFERENCES], b" differences\n");
+fn report(rt: &impl Print, score: &[u32; SCORES]) -> io::Result<()> {
+    line(rt, CASES, " cases")?;
+    line(rt, score[0], " answered 0")?;
+    line(rt, score[9], " answered 9")?;
+    line(rt, score[10], " answered 10")?;
+    line(rt, score[11], " answered 11")?;
+    line(rt, score[12], " answered 12")?;
+    line(rt, score[13], " answered 13")?;
+    line(rt, score[ROWS], " rows")?;
+    line(rt, score[SEVERAL], " events with several rows")?;
+    line(rt, score[FEWER], " states with fewer disjuncts")?;
+    line(rt, score[DIFFERENCES], " differences")
 }
 
 // Whether the words of the read book are those that are written here by hand.
@@ -178,7 +179,7 @@ fn as_read() -> bool {
     (answer == 0) & (place == 0) & (begins == 1) & (ends == 1) & same_book(&book, &read)
 }
 
-fn main() {
+fn main(rt: HostRuntime) -> io::Result<()> {
     let mut score = [0u32; SCORES];
     if !as_read() {
         counted(&mut score, DIFFERENCES, 1);
@@ -190,5 +191,5 @@ fn main() {
         one(seed, &mut score);
         i += 1;
     }
-    report(&score);
+    report(&rt, &score)
 }

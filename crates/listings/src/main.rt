@@ -1,8 +1,12 @@
 // The listing of fourteen pairs of files, each below its heading, for the gate to run it on what document 01's sample does not have.
 #![tactic(auto)]
-fn list(heading: &[u8], book: &[u8], events: &[u8]) {
-    io::write_all(1, heading);
-    printing::print_files(book, events, 0);
+
+use std::io;
+use std::rt::Files;
+
+fn list(rt: &(impl Files + Print), heading: &str, book: &str, events: &str) -> io::Result<()> {
+    rt.println(heading)?;
+    printing::print_files(rt, book, events, 0)
 }
 
 // - A refused book, `match a*` of document 01, 7 at 23, with an event, which must print nothing.
@@ -23,21 +27,21 @@ fn list(heading: &[u8], book: &[u8], events: &[u8]) {
 //   and on 1(3,7,9,7), 1(3,7,9,4294967295).
 // - B1 after 999,998 accepted events: two more are accepted, then a record out of form is 10, one in form 11.
 // - B1 after 900,000, and the 7,000 records, which concern nothing: 77,000 bytes of lines without a row.
-fn main() {
-    list(b"refused\n", b"refused.txt", b"refused.events");
-    list(b"short\n", b"short.txt", b"short.events");
-    list(b"long\n", b"long.txt", b"long.events");
-    list(b"excess\n", b"excess.txt", b"excess.events");
-    list(b"limit\n", b"limit.txt", b"limit.events");
-    list(b"many\n", b"many.txt", b"many.events");
-    list(b"wide\n", b"wide.txt", b"wide.events");
-    list(b"empty\n", b"empty.txt", b"short.events");
-    list(b"nothing\n", b"short.txt", b"empty.events");
-    list(b"most\n", b"most.txt", b"most.events");
-    list(b"fixed\n", b"fixed.txt", b"fixed.events");
-    list(b"places\n", b"places.txt", b"places.events");
-    io::write_all(1, b"late\n");
-    printing::print_files(b"short.txt", b"late.events", 999998);
-    io::write_all(1, b"bare\n");
-    printing::print_files(b"short.txt", b"long.events", 900000);
+fn main(rt: HostRuntime) -> io::Result<()> {
+    list(&rt, "refused", "refused.txt", "refused.events")?;
+    list(&rt, "short", "short.txt", "short.events")?;
+    list(&rt, "long", "long.txt", "long.events")?;
+    list(&rt, "excess", "excess.txt", "excess.events")?;
+    list(&rt, "limit", "limit.txt", "limit.events")?;
+    list(&rt, "many", "many.txt", "many.events")?;
+    list(&rt, "wide", "wide.txt", "wide.events")?;
+    list(&rt, "empty", "empty.txt", "short.events")?;
+    list(&rt, "nothing", "short.txt", "empty.events")?;
+    list(&rt, "most", "most.txt", "most.events")?;
+    list(&rt, "fixed", "fixed.txt", "fixed.events")?;
+    list(&rt, "places", "places.txt", "places.events")?;
+    rt.println("late")?;
+    printing::print_files(&rt, "short.txt", "late.events", 999998)?;
+    rt.println("bare")?;
+    printing::print_files(&rt, "short.txt", "long.events", 900000)
 }

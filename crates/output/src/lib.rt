@@ -1,14 +1,16 @@
 // The lines of a listing, gathered and written: for each record its number, the answer and the row count, then its rows; of a refused text
 // `book`, number, place. For the listings over values and over lent words; of a set of books each row and each refused text also has its book.
 #![tactic(auto)]
+
 ghost use Rattle.std.specs.Prelude.{◌≤◌};
 
+use itoa::Buffer;
 use row::ROW;
+use std::io;
+use std::io::Write;
 
-// How much of the output is gathered before it is written, and the longest number.
+// How much of the output is gathered before it is written.
 const GATHERED: usize = 65000;
-
-const DIGITS: usize = 20;
 
 // Bytes of a row: "variable count (byte 4)", "the book number (0 to 7) in byte 5".
 const VARIABLES: usize = 4;
@@ -23,19 +25,20 @@ fn least(a: usize, b: usize) -> usize
 }
 
 // Writes what is gathered.
-pub fn flush(out: &[u8], at: usize) {
+pub fn flush<W: Write>(writer: &mut W, out: &[u8], at: usize) -> io::Result<()> {
     if at <= out.len() {
-        io::write_all(1, &out[..at]);
+        writer.write_all(&out[..at])?;
     }
+    Ok(())
 }
 
 // Writes what is gathered where less than a line's room is left.
-fn room(out: &[u8], at: usize) -> usize {
+fn room<W: Write>(writer: &mut W, out: &[u8], at: usize) -> io::Result<usize> {
     if at <= GATHERED {
-        return at;
+        return Ok(at);
     }
-    flush(out, at);
-    0
+    flush(writer, out, at)?;
+    Ok(0)
 }
 
 // One byte into the buffer.
@@ -60,9 +63,8 @@ fn put_all(out: &mut [u8], at: usize, bytes: &[u8]) -> usize {
 
 // A number in decimal.
 fn put_number(out: &mut [u8], at: usize, x: u64) -> usize {
-    let mut digits = [0u8; DIGITS];
-    let n = io::decimal(x, &mut digits);
-    put_all(out, at, &digits[..n])
+    let mut digits = Buffer::new();
+    put_all(out, at, digits.format(x).as_bytes())
 }
 
 // A byte as a wider number, of which the bound is told.
@@ -108,74 +110,105 @@ fn put_values(out: &mut [u8], at: usize, row: &[u8], variables: usize) -> usize 
 }
 
 // One row: `row` and the values.
-fn put_row(out: &mut [u8], at: usize, row: &[u8], variables: usize) -> usize {
-    let start = room(out, at);
+fn put_row<W: Write>(
+    writer: &mut W,
+    out: &mut [u8],
+    at: usize,
+    row: &[u8],
+    variables: usize,
+) -> io::Result<usize> {
+    let start = room(writer, out, at)?;
     let k = put_all(out, start, b"row");
-    put_values(out, k, row, variables)
+    Ok(put_values(out, k, row, variables))
 }
 
 // One row of a set: `row`, its book, and the values, as many as the row says.
-fn put_set_row(out: &mut [u8], at: usize, row: &[u8]) -> usize {
-    let start = room(out, at);
+fn put_set_row<W: Write>(
+    writer: &mut W,
+    out: &mut [u8],
+    at: usize,
+    row: &[u8],
+) -> io::Result<usize> {
+    let start = room(writer, out, at)?;
     let a = put_all(out, start, b"row ");
     let b = put_number(out, a, byte(row, BOOK));
-    put_values(out, b, row, byte(row, VARIABLES) as usize)
+    Ok(put_values(out, b, row, byte(row, VARIABLES) as usize))
 }
 
 // The rows of a record, 24 bytes to each.
-pub fn put_rows(out: &mut [u8], at: usize, rows: &[u8], count: usize, variables: usize) -> usize {
+pub fn put_rows<W: Write>(
+    writer: &mut W,
+    out: &mut [u8],
+    at: usize,
+    rows: &[u8],
+    count: usize,
+    variables: usize,
+) -> io::Result<usize> {
     let n = least(count, rows.len() / ROW);
     let mut k = at;
     let mut i: usize = 0;
     while i < n {
         let p = i * ROW;
-        k = put_row(out, k, &rows[p..p + ROW], variables);
+        k = put_row(writer, out, k, &rows[p..p + ROW], variables)?;
         i += 1;
     }
-    k
+    Ok(k)
 }
 
 // The rows of a record over a set of books.
-pub fn put_set_rows(out: &mut [u8], at: usize, rows: &[u8], count: usize) -> usize {
+pub fn put_set_rows<W: Write>(
+    writer: &mut W,
+    out: &mut [u8],
+    at: usize,
+    rows: &[u8],
+    count: usize,
+) -> io::Result<usize> {
     let n = least(count, rows.len() / ROW);
     let mut k = at;
     let mut i: usize = 0;
     while i < n {
         let p = i * ROW;
-        k = put_set_row(out, k, &rows[p..p + ROW]);
+        k = put_set_row(writer, out, k, &rows[p..p + ROW])?;
         i += 1;
     }
-    k
+    Ok(k)
 }
 
 // The line of a record: its number, the answer and the row count.
-pub fn put_line(out: &mut [u8], at: usize, number: u64, answer: usize, count: usize) -> usize {
-    let start = room(out, at);
+pub fn put_line<W: Write>(
+    writer: &mut W,
+    out: &mut [u8],
+    at: usize,
+    number: u64,
+    answer: usize,
+    count: usize,
+) -> io::Result<usize> {
+    let start = room(writer, out, at)?;
     let a = put_number(out, start, number);
     let b = put(out, a, b' ');
     let c = put_number(out, b, answer as u64);
     let d = put(out, c, b' ');
     let e = put_number(out, d, count as u64);
-    put(out, e, b'\n')
+    Ok(put(out, e, b'\n'))
 }
 
 // A refused book.
-pub fn print_refused(number: usize, place: usize) {
-    io::write_all(1, b"book ");
-    print_answer(number, place);
+pub fn print_refused<W: Write>(writer: &mut W, number: usize, place: usize) -> io::Result<()> {
+    writer.write_all(b"book ")?;
+    print_answer(writer, number, place)
 }
 
 // A refused book of a set.
-pub fn print_refused_of(book: usize, number: usize, place: usize) {
-    io::write_all(1, b"book ");
-    io::print_decimal(1, book as u64);
-    io::write_all(1, b" ");
-    print_answer(number, place);
+pub fn print_refused_of<W: Write>(
+    writer: &mut W,
+    book: usize,
+    number: usize,
+    place: usize,
+) -> io::Result<()> {
+    write!(writer, "book {book} ")?;
+    print_answer(writer, number, place)
 }
 
-fn print_answer(number: usize, place: usize) {
-    io::print_decimal(1, number as u64);
-    io::write_all(1, b" ");
-    io::print_decimal(1, place as u64);
-    io::write_all(1, b"\n");
+fn print_answer<W: Write>(writer: &mut W, number: usize, place: usize) -> io::Result<()> {
+    writeln!(writer, "{number} {place}")
 }

@@ -2,6 +2,12 @@
 // A case: length (two bytes, low first), number (one byte), place (two bytes, low first), then the text.
 #![tactic(auto)]
 
+use std::io::Read;
+use std::{fs, io};
+
+// What is lent for a text.
+const BUFFER: usize = 65536;
+
 #[derive(Clone, Copy)]
 struct Score {
     more: bool,
@@ -16,11 +22,11 @@ fn low_first(a: u8, b: u8) -> usize {
 }
 
 // Fills the first n bytes of a buffer from the file, as far as it goes.
-fn fill(fd: i32, buffer: &mut [u8], n: usize) -> usize {
+fn fill<R: Read>(file: &mut R, buffer: &mut [u8], n: usize) -> io::Result<usize> {
     if n <= buffer.len() {
-        io::read_full(fd, &mut buffer[..n])
+        input::fill(file, &mut buffer[..n])
     } else {
-        0
+        Ok(0)
     }
 }
 
@@ -35,41 +41,40 @@ fn answer(buffer: &[u8], n: usize) -> book::ReadingAnswer {
 }
 
 // One case from the file.
-fn one(fd: i32, s: Score) -> Score {
+fn one<R: Read>(rt: &impl Print, file: &mut R, s: Score) -> io::Result<Score> {
     let mut head = [0u8; 5];
-    let got = io::read_full(fd, &mut head);
+    let got = input::fill(file, &mut head)?;
     if got != 5 {
-        return Score {
+        return Ok(Score {
             more: false,
             right: s.right,
             wrong: s.wrong,
-        };
+        });
     }
-    let mut text = io::large_buffer();
+    let mut text = [0u8; BUFFER];
     let n = low_first(head[0], head[1]);
-    let length = fill(fd, &mut text, n);
+    let length = fill(file, &mut text, n)?;
     let a = answer(&text, length);
     if book::number_of(a) == low_first(head[2], 0)
         && book::place_of(a) == low_first(head[3], head[4])
     {
-        return Score {
+        return Ok(Score {
             more: true,
             right: s.right % 100000 + 1,
             wrong: s.wrong,
-        };
+        });
     }
-    io::write_all(1, b"wrong: ");
-    io::print_decimal(1, s.right % 100000 + s.wrong % 100000);
-    io::write_all(1, b"\n");
-    Score {
+    let tried = s.right % 100000 + s.wrong % 100000;
+    println!(rt; "wrong: {tried}")?;
+    Ok(Score {
         more: true,
         right: s.right,
         wrong: s.wrong % 100000 + 1,
-    }
+    })
 }
 
-fn main() {
-    let fd = os::open_read(b"cases");
+fn main(rt: HostRuntime) -> io::Result<()> {
+    let mut file = fs::open(&rt, "cases")?;
     let mut s = Score {
         more: true,
         right: 0,
@@ -77,12 +82,10 @@ fn main() {
     };
     let mut turns: u32 = 0;
     while turns < 10000 && s.more {
-        s = one(fd, s);
+        s = one(&rt, &mut file, s)?;
         turns += 1;
     }
-    libc::close(fd);
-    io::print_decimal(1, s.right);
-    io::write_all(1, b" right, ");
-    io::print_decimal(1, s.wrong);
-    io::write_all(1, b" wrong\n");
+    let right = s.right;
+    let wrong = s.wrong;
+    println!(rt; "{right} right, {wrong} wrong")
 }

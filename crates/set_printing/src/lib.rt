@@ -2,12 +2,19 @@
 // texts are printed as `book`, index, number, place, and then no event is taken. Otherwise printed is for each record its number, the answer and the row
 // count, then its rows, each with its book.
 #![tactic(auto)]
+
 use lent_set::{BOOK_WORDS, BOOKS, STATE_WORDS, TALLY_WORDS};
+use std::io::{ErrorKind, Read, Write};
+use std::rt::Files;
+use std::{fs, io, str};
 
 // "Event record, 20 bytes". What is lent for rows: 65,536 bytes for each book, of which 16 x 129 rows need 49,536.
 const RECORD: usize = 20;
 
 const ROWS: usize = BOOKS * 65536;
+
+// What is lent for a text, and for what is gathered of the output.
+const BUFFER: usize = 65536;
 
 // Names of texts have four letters, a digit, which is the index, and `.txt`.
 const NAME: usize = 9;
@@ -38,10 +45,15 @@ fn put_book(book: &[u32; BOOK_WORDS], books: &mut [u32], k: usize) {
     }
 }
 
-// A text from an open file. A refused one is printed.
-fn read_text(fd: i32, books: &mut [u32], k: usize) -> Text {
-    let mut text = io::large_buffer();
-    let n = io::read_full(fd, &mut text);
+// A text from a reader. A refused one is printed.
+fn read_text<F: Read, W: Write>(
+    file: &mut F,
+    writer: &mut W,
+    books: &mut [u32],
+    k: usize,
+) -> io::Result<Text> {
+    let mut text = [0u8; BUFFER];
+    let n = input::fill(file, &mut text)?;
     let mut book = [0u32; BOOK_WORDS];
     let mut place: usize = 0;
     let mut begins: usize = 0;
@@ -49,63 +61,83 @@ fn read_text(fd: i32, books: &mut [u32], k: usize) -> Text {
     let number = lent::watch_read(&text[..n], &mut book, &mut place, &mut begins, &mut ends);
     if number == 0 {
         put_book(&book, books, k);
-        return Text::Accepted;
+        return Ok(Text::Accepted);
     }
-    output::print_refused_of(k, number, place);
-    Text::Refused
+    output::print_refused_of(writer, k, number, place)?;
+    Ok(Text::Refused)
 }
 
 // The text with an index. A file that is there and cannot be opened does not end the set, or the set would have fewer books than are there.
-fn read_file(first: [u8; NAME], books: &mut [u32], k: usize) -> Text {
+fn read_file<R: Files + Print + Eprint>(
+    rt: &R,
+    first: [u8; NAME],
+    books: &mut [u32],
+    k: usize,
+) -> io::Result<Text> {
     let mut name = first;
     name[DIGIT] = b'0' + (k % BOOKS) as u8;
-    let fd = os::open_read(&name);
-    if fd < 0 {
-        if 0 < k && os::errno() == libc::ENOENT {
-            return Text::Missing;
+    let Ok(path) = str::from_utf8(&name) else {
+        eprintln!(rt; "a name that is no text")?;
+        return Ok(Text::Unread);
+    };
+    match fs::open(rt, path) {
+        Ok(opened) => {
+            let mut file = opened;
+            read_text(&mut file, &mut io::writer(rt), books, k)
         }
-        os::fail(&name);
-        return Text::Unread;
+        Err(e) => {
+            if 0 < k && e.kind() == ErrorKind::NotFound {
+                return Ok(Text::Missing);
+            }
+            eprintln!(rt; "{path}: {e}")?;
+            Ok(Text::Unread)
+        }
     }
-    let text = read_text(fd, books, k);
-    libc::close(fd);
-    text
 }
 
 // The texts from index 0 on, as many as are there, at most eight.
-fn read_files(first: [u8; NAME], books: &mut [u32]) -> Found {
+fn read_files(
+    rt: &(impl Files + Print + Eprint),
+    first: [u8; NAME],
+    books: &mut [u32],
+) -> io::Result<Found> {
     let mut good = true;
     let mut k: usize = 0;
     while k < BOOKS {
-        let text = read_file(first, books, k);
+        let text = read_file(rt, first, books, k)?;
         match text {
             Text::Accepted => {}
             Text::Refused => good = false,
-            Text::Missing => return Found {
+            Text::Missing => return Ok(Found {
                 count: k,
                 good: good,
-            },
-            Text::Unread => return Found {
+            }),
+            Text::Unread => return Ok(Found {
                 count: k,
                 good: false,
-            },
+            }),
         }
         k += 1;
     }
-    Found {
+    Ok(Found {
         count: k,
         good: good,
-    }
+    })
 }
 
-// All records of an open file, a last short one too. A proved loop has to end, and nothing says that the file does, so it also ends at the largest
+// All records of a reader, a last short one too. A proved loop has to end, and nothing says that the input does, so it also ends at the largest
 // 64-bit number of a record.
-fn list(books: &[u32], count: usize, events: i32) {
+fn list<E: Read, W: Write>(
+    books: &[u32],
+    count: usize,
+    events: &mut E,
+    writer: &mut W,
+) -> io::Result<()> {
     let mut states_space = [0u32; BOOKS * STATE_WORDS];
     let mut tally = [0u64; TALLY_WORDS];
     let mut bytes_space = [0u8; RECORD];
     let mut rows_space = [0u8; ROWS];
-    let mut out_space = io::large_buffer();
+    let mut out_space = [0u8; BUFFER];
     let states: &mut [u32] = &mut states_space;
     let bytes: &mut [u8] = &mut bytes_space;
     let rows: &mut [u8] = &mut rows_space;
@@ -114,7 +146,7 @@ fn list(books: &[u32], count: usize, events: i32) {
     let mut row_count: usize = 0;
     let mut number: u64 = 0;
     let mut at: usize = 0;
-    let mut size = io::read_full(events, bytes);
+    let mut size = input::fill(events, bytes)?;
     while number < u64::MAX && 0 < size {
         let answer = lent_set::watch_set_event(
             books,
@@ -127,35 +159,40 @@ fn list(books: &[u32], count: usize, events: i32) {
             &mut row_count,
         );
         number += 1;
-        at = output::put_line(out, at, number, answer, row_count);
-        at = output::put_set_rows(out, at, rows, row_count);
-        size = io::read_full(events, bytes);
+        at = output::put_line(writer, out, at, number, answer, row_count)?;
+        at = output::put_set_rows(writer, out, at, rows, row_count)?;
+        size = input::fill(events, bytes)?;
     }
-    output::flush(out, at);
+    output::flush(writer, out, at)
 }
 
-// The whole of it: the listing of the set whose first text has this name, on the records of an open file. No contract can say what is read or written:
+// The whole of it: the listing of the set whose first text has this name, on the records of a reader. No contract can say what is read or written:
 // proved are safety and that it ends.
-fn print_open(first: [u8; NAME], events: i32) {
+fn print_open<R: Files + Print + Eprint, E: Read>(
+    rt: &R,
+    first: [u8; NAME],
+    events: &mut E,
+) -> io::Result<()> {
     let mut books = [0u32; BOOKS * BOOK_WORDS];
-    let found = read_files(first, &mut books);
+    let found = read_files(rt, first, &mut books)?;
     if found.good {
-        list(&books, found.count, events);
+        list(&books, found.count, events, &mut io::writer(rt))?;
     }
+    Ok(())
 }
 
 // The listing of `book0.txt` and those behind it, on the records of standard input.
-pub fn print() {
-    print_open(*b"book0.txt", 0);
+pub fn print(rt: &(impl Files + Print + Eprint + Input)) -> io::Result<()> {
+    let mut events = rt.reader();
+    print_open(rt, *b"book0.txt", &mut events)
 }
 
 // The listing of a set, by the name of its first text, on the records of another file.
-pub fn print_files(first: [u8; NAME], events: &[u8]) {
-    let fd = os::open_read(events);
-    if fd < 0 {
-        os::fail(events);
-        return;
-    }
-    print_open(first, fd);
-    libc::close(fd);
+pub fn print_files(
+    rt: &(impl Files + Print + Eprint),
+    first: [u8; NAME],
+    events: &str,
+) -> io::Result<()> {
+    let mut file = fs::open(rt, events)?;
+    print_open(rt, first, &mut file)
 }

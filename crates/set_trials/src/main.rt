@@ -1,8 +1,10 @@
 // Random sets of 1 to 8 books on random traces: each call is held to the plain calls on each book alone, and the rows of each book to those of the second
 // matcher over the events that the set accepted; then the same events in another order. Prints what was compared.
 #![tactic(auto)]
+
 use lent_set::BOOKS;
 use set_calls::{ALL_BOOKS, ALL_STATES, SCORE};
+use std::io;
 
 const SETS: u64 = 500;
 
@@ -11,13 +13,13 @@ const SET_COUNT: usize = SCORE;
 
 const BOOK_COUNT: usize = SCORE + 1;
 
-fn main() {
+fn main(rt: HostRuntime) -> io::Result<()> {
     let mut trials = [0u32; set_calls::TRIALS];
     let mut bytes = [0u8; cells::BYTES];
     let mut books = [0u32; ALL_BOOKS];
     let mut score = [0u32; SCORE + 2];
     judged(&mut trials, &mut bytes, &mut books, &mut score);
-    report(&trials, &score);
+    report(&rt, &trials, &score)
 }
 
 fn judged(trials: &mut [u32], bytes: &mut [u8], books: &mut [u32], score: &mut [u32]) {
@@ -51,9 +53,8 @@ fn run(trials: &mut [u32], bytes: &[u8], books: &[u32], count: usize, score: &mu
     set_calls::run(trials, bytes, books, &mut states, &mut next, count, score);
 }
 
-fn line(n: u32, word: &[u8]) {
-    io::print_decimal(1, n as u64);
-    io::write_all(1, word);
+fn line(rt: &impl Print, n: u32, word: &str) -> io::Result<()> {
+    println!(rt; "{n}{word}")
 }
 
 // Calls that the second matcher contradicts are counted in the trial of the book.
@@ -68,20 +69,25 @@ fn differences(trials: &[u32], score: &[u32]) -> u32 {
     n
 }
 
-fn report(trials: &[u32], score: &[u32]) {
-    line(cells::get(score, SET_COUNT), b" sets, three runs of each\n");
-    line(cells::get(score, BOOK_COUNT), b" books\n");
-    line(cells::get(score, set_calls::ROWS), b" rows\n");
-    line(cells::get(score, 0), b" answered 0\n");
-    line(cells::get(score, 9), b" answered 9\n");
-    line(cells::get(score, 10), b" answered 10\n");
-    line(cells::get(score, 11), b" answered 11\n");
-    line(cells::get(score, 12), b" answered 12\n");
-    line(cells::get(score, 13), b" answered 13\n");
+fn report(rt: &impl Print, trials: &[u32], score: &[u32]) -> io::Result<()> {
     line(
+        rt,
+        cells::get(score, SET_COUNT),
+        " sets, three runs of each",
+    )?;
+    line(rt, cells::get(score, BOOK_COUNT), " books")?;
+    line(rt, cells::get(score, set_calls::ROWS), " rows")?;
+    line(rt, cells::get(score, 0), " answered 0")?;
+    line(rt, cells::get(score, 9), " answered 9")?;
+    line(rt, cells::get(score, 10), " answered 10")?;
+    line(rt, cells::get(score, 11), " answered 11")?;
+    line(rt, cells::get(score, 12), " answered 12")?;
+    line(rt, cells::get(score, 13), " answered 13")?;
+    line(
+        rt,
         cells::get(score, set_calls::TOGETHER),
-        b" of these for the rows of all books together\n",
-    );
-    line(cells::get(score, 14), b" answered 14\n");
-    line(differences(trials, score), b" differences\n");
+        " of these for the rows of all books together",
+    )?;
+    line(rt, cells::get(score, 14), " answered 14")?;
+    line(rt, differences(trials, score), " differences")
 }

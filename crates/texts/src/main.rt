@@ -1,9 +1,11 @@
 // Every text that is one edit away from some books, and texts with two edits drawn at random, go to the reader and to the second reader:
 // numbers and places are compared, where one of the names was declared, and every symbol. Prints how many there were, and the first differences.
 #![tactic(auto)]
+
 use book::Book;
 use noted::declared;
 use scanner::Verdict;
+use std::io;
 use table::Symbol;
 
 // Long texts have so many bytes, less one.
@@ -35,32 +37,32 @@ const SCORE_WORDS: usize = 11;
 // A bound that no count comes near: it is there so that sums need no proof.
 const BOUND: u32 = 1000000000;
 
-fn main() {
+fn main(rt: HostRuntime) -> io::Result<()> {
     let mut score = [0u32; SCORE_WORDS];
     let mut work = [0u32; noted::WORDS];
-    longs(&mut work, &mut score);
-    numbers(&mut work, &mut score);
-    singles(&mut work, &mut score);
-    pairs(&mut work, &mut score);
-    report(&score);
+    longs(&rt, &mut work, &mut score)?;
+    numbers(&rt, &mut work, &mut score)?;
+    singles(&rt, &mut work, &mut score)?;
+    pairs(&rt, &mut work, &mut score)?;
+    report(&rt, &score)
 }
 
-fn report(score: &[u32]) {
-    line(get(score, TEXTS), b" texts\n");
-    line(get(score, 0), b" answered 0\n");
-    line(get(score, 1), b" answered 1\n");
-    line(get(score, 2), b" answered 2\n");
-    line(get(score, 3), b" answered 3\n");
-    line(get(score, 4), b" answered 4\n");
-    line(get(score, 5), b" answered 5\n");
-    line(get(score, 6), b" answered 6\n");
-    line(get(score, 7), b" answered 7\n");
-    line(get(score, 8), b" answered 8\n");
-    line(get(score, DIFFERENCES), b" differences\n");
+fn report(rt: &impl Print, score: &[u32]) -> io::Result<()> {
+    line(rt, get(score, TEXTS), " texts\n")?;
+    line(rt, get(score, 0), " answered 0\n")?;
+    line(rt, get(score, 1), " answered 1\n")?;
+    line(rt, get(score, 2), " answered 2\n")?;
+    line(rt, get(score, 3), " answered 3\n")?;
+    line(rt, get(score, 4), " answered 4\n")?;
+    line(rt, get(score, 5), " answered 5\n")?;
+    line(rt, get(score, 6), " answered 6\n")?;
+    line(rt, get(score, 7), " answered 7\n")?;
+    line(rt, get(score, 8), " answered 8\n")?;
+    line(rt, get(score, DIFFERENCES), " differences\n")
 }
 
-fn line(n: u32, word: &[u8]) {
-    said(n as usize, word);
+fn line(rt: &impl Print, n: u32, word: &str) -> io::Result<()> {
+    said(rt, n as usize, word)
 }
 
 fn get(score: &[u32], i: usize) -> u32 {
@@ -74,33 +76,35 @@ fn up(score: &mut [u32], i: usize) {
 }
 
 // Texts about as long as a text may be.
-fn longs(work: &mut [u32], score: &mut [u32]) {
+fn longs(rt: &impl Print, work: &mut [u32], score: &mut [u32]) -> io::Result<()> {
     let mut size: usize = SHORTEST;
     while size < LONGEST {
-        long(size, work, score);
+        long(rt, size, work, score)?;
         size += 1;
     }
+    Ok(())
 }
 
 // A base text with so many spaces before its last LF that it has this size.
-fn long(size: usize, work: &mut [u32], score: &mut [u32]) {
+fn long(rt: &impl Print, size: usize, work: &mut [u32], score: &mut [u32]) -> io::Result<()> {
     let mut text = [b' '; LONGEST];
     let base = variants::base(0, &mut text) % LONGEST;
     variants::push(&mut text, (base + LONGEST - 1) % LONGEST, b' ' as u32);
     variants::push(&mut text, size, b'\n' as u32);
-    compared(cells::part(&text, 0, size % LONGEST + 1), work, score);
+    compared(rt, cells::part(&text, 0, size % LONGEST + 1), work, score)
 }
 
 // Numbers with zeros.
-fn numbers(work: &mut [u32], score: &mut [u32]) {
+fn numbers(rt: &impl Print, work: &mut [u32], score: &mut [u32]) -> io::Result<()> {
     let mut i: usize = 0;
     while i < ZEROS {
-        number(i, work, score);
+        number(rt, i, work, score)?;
         i += 1;
     }
+    Ok(())
 }
 
-fn number(i: usize, work: &mut [u32], score: &mut [u32]) {
+fn number(rt: &impl Print, i: usize, work: &mut [u32], score: &mut [u32]) -> io::Result<()> {
     let mut text = [0u8; LONGEST];
     let zeros = if i < FEW_ZEROS {
         i
@@ -108,44 +112,53 @@ fn number(i: usize, work: &mut [u32], score: &mut [u32]) {
         MANY_ZEROS + (i - FEW_ZEROS) % ZEROS
     };
     let size = variants::zeros(zeros, &mut text);
-    compared(cells::part(&text, 0, size), work, score);
+    compared(rt, cells::part(&text, 0, size), work, score)
 }
 
-fn singles(work: &mut [u32], score: &mut [u32]) {
+fn singles(rt: &impl Print, work: &mut [u32], score: &mut [u32]) -> io::Result<()> {
     let mut k: usize = 0;
     while k < variants::BASES {
-        each(k, work, score);
+        each(rt, k, work, score)?;
         k += 1;
     }
+    Ok(())
 }
 
 // Every edit of one base text.
-fn each(k: usize, work: &mut [u32], score: &mut [u32]) {
+fn each(rt: &impl Print, k: usize, work: &mut [u32], score: &mut [u32]) -> io::Result<()> {
     let mut text = [0u8; variants::ROOM];
     let size = variants::base(k, &mut text) % variants::ROOM;
     let mut i: usize = 0;
     while i < (size + 1) * variants::KINDS {
-        single(cells::part(&text, 0, size), i, work, score);
+        single(rt, cells::part(&text, 0, size), i, work, score)?;
         i += 1;
     }
+    Ok(())
 }
 
-fn single(text: &[u8], i: usize, work: &mut [u32], score: &mut [u32]) {
+fn single(
+    rt: &impl Print,
+    text: &[u8],
+    i: usize,
+    work: &mut [u32],
+    score: &mut [u32],
+) -> io::Result<()> {
     let mut out = [0u8; variants::ROOM];
     let e = variants::of_kind(text, i % variants::KINDS, i / variants::KINDS);
     let size = variants::edited(text, e, &mut out);
-    compared(cells::part(&out, 0, size), work, score);
+    compared(rt, cells::part(&out, 0, size), work, score)
 }
 
-fn pairs(work: &mut [u32], score: &mut [u32]) {
+fn pairs(rt: &impl Print, work: &mut [u32], score: &mut [u32]) -> io::Result<()> {
     let mut i: u64 = 0;
     while i < PAIRS {
-        pair(i, work, score);
+        pair(rt, i, work, score)?;
         i += 1;
     }
+    Ok(())
 }
 
-fn pair(i: u64, work: &mut [u32], score: &mut [u32]) {
+fn pair(rt: &impl Print, i: u64, work: &mut [u32], score: &mut [u32]) -> io::Result<()> {
     let mut text = [0u8; variants::ROOM];
     let mut out = [0u8; variants::ROOM];
     let k = draws::below(i, 0, variants::BASES as u64) as usize;
@@ -154,7 +167,7 @@ fn pair(i: u64, work: &mut [u32], score: &mut [u32]) {
     let once = variants::edited(cells::part(&text, 0, base), e, &mut out);
     let e = drawn(i, 4, cells::part(&out, 0, once));
     let twice = variants::edited(cells::part(&out, 0, once), e, &mut text);
-    compared(cells::part(&text, 0, twice), work, score);
+    compared(rt, cells::part(&text, 0, twice), work, score)
 }
 
 // An edit of the text, the first or the second of pair number i, by three draws from k on: in the pattern more often than before it.
@@ -170,7 +183,7 @@ fn later(a: u64, b: u64) -> u64 {
 }
 
 // One text goes to both readers, and one of its names is asked for.
-fn compared(text: &[u8], work: &mut [u32], score: &mut [u32]) {
+fn compared(rt: &impl Print, text: &[u8], work: &mut [u32], score: &mut [u32]) -> io::Result<()> {
     let r = reader::read(text);
     let a = r.answer;
     let b = r.book;
@@ -182,9 +195,10 @@ fn compared(text: &[u8], work: &mut [u32], score: &mut [u32]) {
     let name = get(score, TEXTS) % NAMES;
     let alike = named(text, work, name) && symbols_alike(b, work);
     if number != v.number || place != v.place || !alike {
-        told(text, number, place, v, get(score, DIFFERENCES));
+        told(rt, text, number, place, v, get(score, DIFFERENCES))?;
         up(score, DIFFERENCES);
     }
+    Ok(())
 }
 
 // Whether the name with a number is the part of the text where the second reader found it declared.
@@ -193,10 +207,7 @@ fn named(text: &[u8], work: &[u32], number: u32) -> bool {
     let n = reader::name_place(text, number as usize);
     p.start == n.start
         && p.size == n.size
-        && check::same(
-            reader::name(text, number as usize),
-            cells::part(text, p.start, p.size),
-        )
+        && reader::name(text, number as usize) == cells::part(text, p.start, p.size)
 }
 
 // Whether what the book has of each symbol is what the second reader noted of its name; a refused book has no symbols.
@@ -235,19 +246,25 @@ fn parameters_alike(y: Symbol, work: &[u32], number: u32) -> bool {
 
 // A difference, if there have not been many: what the two readers answer (where they agree it is a name that differs, or a symbol), and the
 // text.
-fn told(text: &[u8], number: usize, place: usize, v: Verdict, before: u32) {
+fn told(
+    rt: &impl Print,
+    text: &[u8],
+    number: usize,
+    place: usize,
+    v: Verdict,
+    before: u32,
+) -> io::Result<()> {
     if PRINTED <= before {
-        return;
+        return Ok(());
     }
-    said(number, b" at ");
-    said(place, b" the reader, ");
-    said(v.number, b" at ");
-    said(v.place, b" the second reader, of the text\n");
-    io::write_all(1, text);
-    io::write_all(1, b"\n");
+    said(rt, number, " at ")?;
+    said(rt, place, " the reader, ")?;
+    said(rt, v.number, " at ")?;
+    said(rt, v.place, " the second reader, of the text\n")?;
+    rt.write_all(text)?;
+    rt.println("")
 }
 
-fn said(n: usize, word: &[u8]) {
-    io::print_decimal(1, n as u64);
-    io::write_all(1, word);
+fn said(rt: &impl Print, n: usize, word: &str) -> io::Result<()> {
+    print!(rt; "{n}{word}")
 }

@@ -1,7 +1,9 @@
 // Random books and traces: every row that the watch lists is compared with those of a second matcher, which works from whole traces
 // by the declarative meaning; then a reordered copy of each trace is run and partners are compared. Prints what was compared.
 #![tactic(auto)]
+
 use cells::SCORE;
+use std::io;
 use tally::Tally;
 
 // 4,000 books, and two traces to each that is accepted. A trace has three runs.
@@ -18,11 +20,11 @@ const NO_ROOM: usize = SCORE + 12;
 
 const NO_SPACE: usize = SCORE + 13;
 
-fn main() {
+fn main(rt: HostRuntime) -> io::Result<()> {
     let mut trial = [0u32; cells::WORDS];
     let mut bytes = [0u8; cells::BYTES];
     judged(&mut trial, &mut bytes);
-    report(&trial);
+    report(&rt, &trial)
 }
 
 // A first run tells which events are accepted, so that the second matcher can list their rows; in the second run these are compared;
@@ -68,21 +70,20 @@ fn run(trial: &mut [u32], bytes: &[u8], size: usize) {
     }
 }
 
-fn line(n: u32, word: &[u8]) {
-    io::print_decimal(1, n as u64);
-    io::write_all(1, word);
+fn line(rt: &impl Print, n: u32, word: &str) -> io::Result<()> {
+    println!(rt; "{n}{word}")
 }
 
-fn report(trial: &[u32]) {
+fn report(rt: &impl Print, trial: &[u32]) -> io::Result<()> {
     let traces = second::traces(trial);
-    line(traces / 2, b" books\n");
-    line(traces, b" traces, three runs of each\n");
-    line(cells::get(trial, cells::ROW_COUNT), b" rows\n");
-    line(cells::get(trial, SCORE), b" answered 0\n");
-    line(cells::get(trial, UNSOUND), b" answered 9\n");
-    line(cells::get(trial, OUT_OF_FORM), b" answered 10\n");
-    line(cells::get(trial, TOO_MANY), b" answered 11\n");
-    line(cells::get(trial, NO_ROOM), b" answered 12\n");
-    line(cells::get(trial, NO_SPACE), b" answered 13\n");
-    line(cells::get(trial, SCORE + cells::WRONG), b" differences\n");
+    line(rt, traces / 2, " books")?;
+    line(rt, traces, " traces, three runs of each")?;
+    line(rt, cells::get(trial, cells::ROW_COUNT), " rows")?;
+    line(rt, cells::get(trial, SCORE), " answered 0")?;
+    line(rt, cells::get(trial, UNSOUND), " answered 9")?;
+    line(rt, cells::get(trial, OUT_OF_FORM), " answered 10")?;
+    line(rt, cells::get(trial, TOO_MANY), " answered 11")?;
+    line(rt, cells::get(trial, NO_ROOM), " answered 12")?;
+    line(rt, cells::get(trial, NO_SPACE), " answered 13")?;
+    line(rt, cells::get(trial, SCORE + cells::WRONG), " differences")
 }
