@@ -1,6 +1,7 @@
 // The types of what an event call hands back. What it is, for any call and along any list of calls, is defined in specs/; the theorems
 // of the three demands are in the crate demands. No function: the calls themselves are in the crate watch.
 #![tactic(auto)]
+
 use book::Book;
 use state::State;
 use tally::Tally;

@@ -19,7 +19,6 @@ use Rattle.meaning.specs.Labels.{Entry, bound, free, Held, compare_held}
 use Rattle.meaning.specs.Room.{held_limit}
 use Rattle.meaning.specs.Sound.{sound_entry, sound_piece, sound_held, sound_state, event_limit}
 use Rattle.slot.specs.Slots.{slot_of}
-use Rattle.disjunct.specs.declared.Disjunct.{Disjunct}
 use Rattle.disjunct.specs.Disjuncts.{disjunct_of}
 use Rattle.state.specs.States.{state_of}
 use Rattle.sound.specs.Soundness.{slot_counts, state_counts}
