@@ -18,7 +18,7 @@ use Rattle.runs.specs.Runs.{Within}
 use Rattle.calls.specs.Answers.{number_of}
 use Rattle.calls.specs.Checks.{FirstFailing}
 use Rattle.calls.specs.Runs.{event, Made, make, run_of, accepted_in, trace_of, Delivered, Judged}
-use Rattle.examples.specs.Starred.{Line, runs, late, reads, buffer, place, call_of, back_of, outcome, wanted_back, wanted, Meant}
+use Rattle.examples.specs.Starred.{Line, runs, late, reads, call_of, back_of, outcome, wanted_back, wanted, Meant}
 
 -- a call lends the record and 49 bytes of 255, from the place 1 on; what comes back of it is number, count, bytes and tally
 pub call_said : (l : Line) (m : Made)
