@@ -8,6 +8,7 @@ use borrow.Author.Tests.{lt-ltb}
 use denote.Laws.{Is}
 use denote.Shadow.{shadow}
 use denote.Array.{each}
+use denote.Builtin.{u32}
 use mir.Val.{Val}
 use lib.ListN.{length}
 use Rattle.laws.specs.Lists.{all}
@@ -21,7 +22,7 @@ use Rattle.book.specs.contracts.Book as books
 use Rattle.state.specs.declared.State.{State}
 use Rattle.state.specs.contracts.State as states
 
-words : (xs : List ℕ) (us : List Val) → shadow (each (denote.Builtin.u32).Denot (denote.Builtin.u32).own_val xs us) → all word32 xs ≡ true
+words : (xs : List ℕ) (us : List Val) → shadow (each u32.Denot u32.own_val xs us) → all word32 xs ≡ true
 words [] us h = refl
 words (x ∷ xs) [] h = absurd h
 words (x ∷ xs) (u ∷ us) h = ap₂ ◌&&◌ (lt-ltb x (2 ^ 32) h.0.1) (words xs us h.1)
