@@ -1,6 +1,7 @@
 // The leaves of a pattern's reader: names, signs behind an atom, a closing parenthesis, tokens that cannot stand. For the cycle of the
 // crate grammar.
 #![tactic(auto)]
+
 ghost use Rattle.std.specs.Prelude.{◌≡◌, true, ℕ, ◌+◌, ◌≤◌, length};
 ghost use Rattle.pattern.specs.Regex.{Regex};
 ghost use Rattle.form.specs.Scan as Scan;

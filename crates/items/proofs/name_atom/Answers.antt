@@ -5,7 +5,6 @@ use mathlib.Core.List.{List, Memᴰ, [], ◌∷◌, map}
 use Prim.Native.Nat.{ℕ, zero, suc, ◌-◌, ◌≤◌, ◌<◌}
 use native.Mathlib.Omega.{arith}
 use native.Mathlib.Numerals.{add-one}
-use borrow.Author.Rules.{rules}
 use borrow.Author.Tests.{lt-ltb, le-ltb, lt-leb, le-leb, leb-true}
 use lib.Dec.{ltb}
 use lib.ListN.{length, get_or, length-map}
@@ -28,8 +27,7 @@ use Rattle.table.specs.Tables.{symbol_of, table_of, view_symbol, view_table, ins
 use Rattle.table.proofs.Codes.{parameter_wide, view_symbol_law, names_symbols, ready_fits}
 use Rattle.items.specs.Results.{parsed_of}
 use Rattle.items.proofs.Leaves.{failed_parsed}
-use Rattle.items.proofs.name_atom.Statement.{statement}
-use Rattle.items.proofs.name_atom.Tie as tie
+use Rattle.items.proofs.name_atom.Goals as goal
 
 -- an element of a mapped list, whatever stands for those past the end
 get_or_in : {A B : Type 0} (f : A → B) (l : List A) (i : ℕ) (d : B) (e : A) → i < length l → get_or (map f l) i d ≡ f (get_or l i e)
@@ -90,138 +88,76 @@ name_at_law : (s : Bytes) (l : List Span) (used q e a : ℕ) → e ≡ name_end 
 unfolding Parse.name_atom
 name_at_law s l used q e a i h k j = rw (← i, le-ltb 12 _ h, lt-leb 31 used k, ← j)
 
-name_end_requires : tie.Need-name-end-requires
-name_end_requires c κs = search rules
+pub overflow_sub-e : goal.overflow_sub-e
+overflow_sub-e c = rw c.name_end-e.ensures (name_end_ge _ _)
 
-sub_if1 : tie.Need-overflow-sub-if1
-sub_if1 c = rw c.name_end_law.ensures (name_end_ge _ _)
-
-failed_requires : tie.Need-failed-requires
-failed_requires c κs = search rules
-
-returns : tie.Need-returns
+pub returns-then-e-q-gt-NAME_LIMIT : goal.returns-then-e-q-gt-NAME_LIMIT
 unfolding Parse.name_atom
-returns c =
-    rw (← c.before.before.name_end_law.ensures, lt-ltb 12 _ c.before.if1.true) (c.failed.ensures ∙ failed_parsed _ _ 3 _ (omega arith))
+returns-then-e-q-gt-NAME_LIMIT c =
+    rw (← c.name_end-e.ensures, lt-ltb 12 _ c.if-e-q-gt-NAME_LIMIT.true) (c.failed.ensures ∙ failed_parsed _ _ 3 _ (omega arith))
 
-failed_requires_2 : tie.Need-failed-requires-2
-failed_requires_2 c κs = search rules
-
-returns_2 : tie.Need-returns-2
+pub returns-then-used-ge-POSITIONS : goal.returns-then-used-ge-POSITIONS
 unfolding Parse.name_atom
-returns_2 c =
+returns-then-used-ge-POSITIONS c =
     rw (
-      ← c.before.before.before.name_end_law.ensures,
-      le-ltb 12 _ c.before.before.if1.false,
-      le-leb 31 _ c.before.if2.true,
+      ← c.name_end-e.ensures,
+      le-ltb 12 _ c.if-e-q-gt-NAME_LIMIT.false,
+      le-leb 31 _ c.if-used-ge-POSITIONS.true,
     )
-    (c.failed2.ensures ∙ failed_parsed _ _ 3 _ (omega arith))
+    (c.failed-then-used-ge-POSITIONS.ensures ∙ failed_parsed _ _ 3 _ (omega arith))
 
-add_to : tie.Need-overflow-add-to
-add_to c = search rules
-
-find_requires : tie.Need-find-requires
-find_requires c κs =
-    let start = c.before.before.before.before.before in
-    let r = start.requires.ready in
-    let n = c.before.before.before.name_end_law.ensures in (
+pub find-a-requires : goal.find-a-requires
+find-a-requires c =
+    let r = c.requires.ready in
+    let n = c.name_end-e.ensures in (
       omega arith,
       omega (arith, r.few_variables, r.few_symbols),
       rw n (name_end_ge _ _),
-      rw n (name_end_le _ _ start.requires.in_text),
+      rw n (name_end_le _ _ c.requires.in_text),
       rw names_symbols (within _ _ r),
     )
 
--- the stops before the name is looked for: its end, and the beginning
-abbrev ended : tie.After-find → tie.After-name-end
-ended c = c.before.before.before.before
+pub bound_in-bound-requires : goal.bound_in-bound-requires
+bound_in-bound-requires c =
+    fits c.args.s.now c.args.t c.requires.ready c.find-a.result c.if-a-n.true _
 
-abbrev begun : tie.After-find → tie.Start
-begun c = (ended c).before.before
-
--- what is left to say once the name has been looked for
-known_name : (c : tie.After-find) → let x = (begun c).args in
-    let l = (view_table x.t2).symbols in
-    let e = (ended c).name_end_law.result in
-    Parse.name_atom x.s.now l x.used x.q
-    ≡ cond (ltb c.find.result (length l)) (record { step = go e; tree = lit c.find.result }) (Parse.failed (fail 5 x.q))
-known_name c =
-    let x = (begun c).args in
-    let n = (ended c).name_end_law in
-    name_at_law x.s.now (view_table x.t2).symbols x.used x.q n.result c.find.result n.ensures
-    c.before.before.before.if1.false c.before.before.if2.false (rw (← names_symbols x.t2) c.find.ensures)
-
-mul_y : tie.Need-overflow-mul-y
-mul_y c = search rules
-
-element_copy_out_y : tie.Need-element-copy-out-y
-element_copy_out_y c = search rules
-
-bound_in_requires : tie.Need-bound-in-requires
-bound_in_requires c κs =
-    let f = c.before.before in
-    let start = begun f in
-    fits start.args.s.now start.args.t2 start.pre.ready f.find.result c.before.if3.true _
-
-add_literal : tie.Need-overflow-add-literal
-add_literal c = search rules
-
-cast_literal : tie.Need-overflow-cast-literal
-cast_literal c = search rules
-
-literal_requires : tie.Need-literal-requires
-literal_requires c κs = search rules
-
-returns_3 : tie.Need-returns-3
+pub returns-then-a-n : goal.returns-then-a-n
 unfolding parsed_of
-returns_3 c =
-    let f = c.before.before.before.before in
-    let start = begun f in
-    let s = start.args.s.now in
-    let t = start.args.t2 in
-    let a = f.find.result in
-    let h = c.before.before.before.if3.true in
-    let r = start.pre.ready in
-    let b = c.before.bound-in.ensures ∙ ap (λ y. bound_in y.parameters) (viewed s t r a h _) in
+returns-then-a-n c =
+    let known_name : let x = c.args in
+    let l = (view_table x.t).symbols in
+    let e = c.name_end-e.result in
+    Parse.name_atom x.s.now l x.used x.q
+    ≡ cond (ltb c.find-a.result (length l)) (record { step = go e; tree = lit c.find-a.result }) (Parse.failed (fail 5 x.q)) = let x = c.args in
+    let n = c.name_end-e in
+    name_at_law x.s.now (view_table x.t).symbols x.used x.q n.result c.find-a.result n.ensures
+    c.if-e-q-gt-NAME_LIMIT.false c.if-used-ge-POSITIONS.false (rw (← names_symbols x.t) c.find-a.ensures) in
+    let s = c.args.s.now in
+    let t = c.args.t in
+    let a = c.find-a.result in
+    let h = c.if-a-n.true in
+    let r = c.requires.ready in
+    let b = c.bound_in-bound.ensures ∙ ap (λ y. bound_in y.parameters) (viewed s t r a h _) in
     rw (
-      known_name f,
+      known_name,
       named s t r,
       lt-ltb a t.count h,
-      ← add-one start.args.used,
-      ← c.literal.ensures (variables_of (view_table t).table) (sym b),
+      ← add-one c.args.used,
+      ← c.literal-x.ensures (variables_of (view_table t).table) (sym b),
     )
 
-failed_requires_3 : tie.Need-failed-requires-3
-failed_requires_3 c κs = search rules
-
-returns_4 : tie.Need-returns-4
-returns_4 c =
-    let f = c.before.before in
-    let start = begun f in
-    let s = start.args.s.now in
-    let t = start.args.t2 in
-    let a = f.find.result in
-    rw (known_name f, named s t start.pre.ready, le-ltb a t.count c.before.if3.false)
-    (c.failed3.ensures ∙ failed_parsed _ _ 5 _ (omega arith))
-
-pub name_atom_spec : {M : Type 1} → statement M
-name_atom_spec =
-    tie.close
-    (tie.spec
-    name_end_requires
-    sub_if1
-    failed_requires
-    returns
-    failed_requires_2
-    returns_2
-    add_to
-    find_requires
-    mul_y
-    element_copy_out_y
-    bound_in_requires
-    add_literal
-    cast_literal
-    literal_requires
-    returns_3
-    failed_requires_3
-    returns_4)
+pub returns : goal.returns
+returns c =
+    let known_name : let x = c.args in
+    let l = (view_table x.t).symbols in
+    let e = c.name_end-e.result in
+    Parse.name_atom x.s.now l x.used x.q
+    ≡ cond (ltb c.find-a.result (length l)) (record { step = go e; tree = lit c.find-a.result }) (Parse.failed (fail 5 x.q)) = let x = c.args in
+    let n = c.name_end-e in
+    name_at_law x.s.now (view_table x.t).symbols x.used x.q n.result c.find-a.result n.ensures
+    c.if-e-q-gt-NAME_LIMIT.false c.if-used-ge-POSITIONS.false (rw (← names_symbols x.t) c.find-a.ensures) in
+    let s = c.args.s.now in
+    let t = c.args.t in
+    let a = c.find-a.result in
+    rw (known_name, named s t c.requires.ready, le-ltb a t.count c.if-a-n.false)
+    (c.failed-2.ensures ∙ failed_parsed _ _ 5 _ (omega arith))
