@@ -1,5 +1,6 @@
 // The reader of the lines before the pattern: `vars`, then `sym` lines, up to the word `match`. For the reader of books.
 #![tactic(auto)]
+
 ghost use Rattle.std.specs.Prelude.{◌≡◌, map, ◌-◌, ◌+◌, ◌≤◌, eqb, length, take};
 ghost use Rattle.form.specs.Limits.{variable_limit, symbol_limit, parameter_limit};
 ghost use Rattle.form.specs.Text.{ignored_word, fixed_sign, vars_word, sym_word, match_word};
