@@ -1,5 +1,6 @@
 // The words of lent blocks copied and cleared. What blocks of words say of a book, a state and a tally is defined in specs/.
 #![tactic(auto)]
+
 ghost use Rattle.std.specs.Prelude.{◌≡◌, ◌≤◌, length, replicate};
 ghost use Rattle.laws.specs.Parts.{front};
 
