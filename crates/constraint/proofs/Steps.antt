@@ -8,7 +8,7 @@ use native.Mathlib.Numerals.{add-one}
 use native.Mathlib.Nat.{sub-zero}
 use native.Mathlib.Decide.{ℕ_discrete}
 use native.Mathlib.Omega.{arith}
-use borrow.Author.Tests.{leb-true, eqb-true, eqb-false, eq-eqb, ne_eqb, not-true, not-false}
+use borrow.Author.Tests.{leb-true, eq-eqb, ne_eqb}
 use lib.Dec.{eqb, leb}
 use lib.ListN.{length, take, drop, get_or, set, length-map, length-set}
 use lib.Seq.{length-take-le, take-suc, take-suc-set, get_or-set_same, get_or-set_other, slice, slice-cons}
@@ -40,14 +40,11 @@ matches_counts y e l h m k =
     rw (a, b)
 
 -- what the tests of the code say of two demands
-pub unequal : (d x : Events.Demand) → x.variable ≡ d.variable → not (eqb x.value d.value) ≡ true → Events.compatible d x ≡ false
-unequal d x e n =
-    let v = eqb-false x.value d.value (not-true _ n) in
-    rw (eq-eqb d.variable x.variable (sym e), ne_eqb d.value x.value (λ h. v (sym h)))
+pub unequal : (d x : Events.Demand) → x.variable ≡ d.variable → (x.value ≡ d.value → ⊥) → Events.compatible d x ≡ false
+unequal d x e v = rw (eq-eqb d.variable x.variable (sym e), ne_eqb d.value x.value (λ h. v (sym h)))
 
-pub equal : (d x : Events.Demand) → not (eqb x.value d.value) ≡ false → Events.compatible d x ≡ true
-equal d x n =
-    let v = eqb-true x.value d.value (not-false _ n) in
+pub equal : (d x : Events.Demand) → x.value ≡ d.value → Events.compatible d x ≡ true
+equal d x v =
     ap (λ (b : Bool). not (eqb d.variable x.variable) || b) (eq-eqb d.value x.value (sym v)) ∙ or-true (not (eqb d.variable x.variable))
 
 pub apart : (d x : Events.Demand) → (x.variable ≡ d.variable → ⊥) → Events.compatible d x ≡ true
@@ -80,12 +77,12 @@ module _ (c : Constraint) (l : length c.demands ≡ 4) (few : c.count ≤ 4) whe
 unnamed : (p : Parameter) (x : ℕ) → (p.tag ≡ 1 → ⊥) → Events.demand_of (view_parameter p) x ≡ []
 unnamed p x h = view_either (λ q. Events.demand_of q x ≡ []) p (λ k. absurd (h k)) (λ _. refl) (λ _ _. refl)
 
-pub differs : (p : Parameter) (x : ℕ) → p.tag ≡ 2 → not (eqb p.number x) ≡ true → Events.fixed_at (view_parameter p) x ≡ false
+pub differs : (p : Parameter) (x : ℕ) → p.tag ≡ 2 → (p.number ≡ x → ⊥) → Events.fixed_at (view_parameter p) x ≡ false
 differs p x h n =
-    view_either (λ q. Events.fixed_at q x ≡ false) p (λ k. absurd (omega (arith, h, k))) (λ _. not-true _ n) (λ _ k. absurd (k h))
+    view_either (λ q. Events.fixed_at q x ≡ false) p (λ k. absurd (omega (arith, h, k))) (λ _. ne_eqb p.number x n) (λ _ k. absurd (k h))
 
-pub agrees_at : (p : Parameter) (x : ℕ) → not (eqb p.number x) ≡ false → Events.fixed_at (view_parameter p) x ≡ true
-agrees_at p x n = view_either (λ q. Events.fixed_at q x ≡ true) p (λ _. refl) (λ _. not-false _ n) (λ _ _. refl)
+pub agrees_at : (p : Parameter) (x : ℕ) → p.number ≡ x → Events.fixed_at (view_parameter p) x ≡ true
+agrees_at p x n = view_either (λ q. Events.fixed_at q x ≡ true) p (λ _. refl) (λ _. eq-eqb p.number x n) (λ _ _. refl)
 
 pub unfixed : (p : Parameter) (x : ℕ) → (p.tag ≡ 2 → ⊥) → Events.fixed_at (view_parameter p) x ≡ true
 unfixed p x h = view_either (λ q. Events.fixed_at q x ≡ true) p (λ _. refl) (λ k. absurd (h k)) (λ _ _. refl)

@@ -1,5 +1,6 @@
 // The constraint of a symbol on an event: what it demands of the variables, or false. For the matcher's sets.
 #![tactic(auto)]
+
 ghost use Rattle.std.specs.Prelude.{◌≡◌, true, ◌&&◌, map, ℕ, suc, ◌≤◌, ◌<◌, leb, take, drop, get_or};
 ghost use Rattle.laws.specs.Lists.{all};
 ghost use Rattle.meaning.specs.Events as Events;

@@ -2,12 +2,8 @@
 use mathlib.Core.Path.{refl}
 use native.Mathlib.Omega.{arith}
 use Rattle.demand.specs.Constraints.{demands_in, view_constraint}
-use Rattle.constraint.proofs.never.Statement.{statement}
-use Rattle.constraint.proofs.never.Tie as tie
+use Rattle.constraint.proofs.never.Goals as goal
 
-returns : tie.Need-returns
+pub returns : goal.returns
 unfolding demands_in view_constraint
 returns c = (refl, record { few = omega arith; within = refl })
-
-pub never_spec : {M : Type 1} → statement M
-never_spec = tie.close (tie.spec returns)
