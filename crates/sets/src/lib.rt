@@ -1,6 +1,7 @@
 // A set of disjuncts in lent words, ascending and once each: one put in its place, one set put among another. For the sets that one event
 // makes.
 #![tactic(auto)]
+
 ghost use Rattle.std.specs.Prelude.{◌≡◌, true, false, ◌∷◌, ◌++◌, suc, ◌+◌, ◌≤◌, ◌<◌, take, drop};
 ghost use Rattle.laws.specs.Order.{ascending};
 ghost use Rattle.laws.specs.Sets.{insert, insert_all, within};
