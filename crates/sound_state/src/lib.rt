@@ -1,5 +1,6 @@
 // Answer 9 for states filled in any way: the event number, the disjuncts held and their order. For the pure step of an event.
 #![tactic(auto)]
+
 ghost use Rattle.std.specs.Prelude.{◌≡◌, take};
 ghost use Prim.Native.Nat.{compare, min, ◌≤◌};
 ghost use Rattle.laws.specs.Order.{is_less, ascending};
