@@ -183,7 +183,7 @@ module _ (s : Bytes) where
     pub name_given : NameGives s n (name_bytes s n)
     name_given = record {
       declared = λ d q f h. (Bench.names s d q f n h).0;
-      beyond = λ d q f h. Bench.no_name s d q f n h;
+      beyond = λ d q f h. Bench.no_name_law s d q f n h;
       refused = λ h. Bench.refused_name s n (turned h);
     }
 
