@@ -1,6 +1,7 @@
 // The reader of patterns: alternation, sequence and atom call one another; the allowed depth, then the remaining bytes, falls.
 // For the reader of books.
 #![tactic(auto)]
+
 ghost use Rattle.std.specs.Prelude.{◌≡◌, ◌+◌, ◌≤◌};
 ghost use Rattle.form.specs.Limits.{open_limit};
 ghost use Rattle.form.specs.Parse as Parse;
