@@ -1,6 +1,7 @@
 // The answers of an event call and their numbers, for `watch` and its callers. Apart from the calls, because an edit there need not prove
 // these matches again.
 #![tactic(auto)]
+
 ghost use Rattle.std.specs.Prelude.{◌≡◌};
 ghost use Rattle.calls.specs.Answers.{number_of, place_of};
 

@@ -1,5 +1,6 @@
 // How an event call ends, for `watch`: what it hands back refused and accepted, and whether its rows fit into the lent buffer.
 #![tactic(auto)]
+
 ghost use Rattle.std.specs.Prelude.{◌≡◌, cond, ◌+◌, ◌*◌, ◌≤◌, ◌<◌, leb, length, take};
 ghost use Rattle.laws.specs.Lists.{gather};
 ghost use Rattle.laws.specs.Parts.{splice};
