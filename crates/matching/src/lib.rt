@@ -1,6 +1,7 @@
 // The pattern's line of a book: the pattern behind the word `match`, its end at the end of the text, and answers 7 and 8.
 // For crate `reader`, which calls `match_from` behind the lines.
 #![tactic(auto)]
+
 ghost use Rattle.std.specs.Prelude.{◌≡◌, ℕ, ◌≤◌, length};
 ghost use Rattle.form.specs.Limits.{variable_limit};
 ghost use Rattle.form.specs.Parse as Parse;
