@@ -94,7 +94,7 @@ each_backed w s long (c ∷ cs) h m (Memᴰ.head e) =
     subst Backed (sym e) (backed_one w s long c (and_true_split (is_bytes c.bytes) (lent_bytes cs) h).0)
 each_backed w s long (c ∷ cs) h m (Memᴰ.tail k) =
     let (here, rest) = and_true_split (is_bytes c.bytes) (lent_bytes cs) h in
-    each_backed w _ (state_seen w s long c here).1 cs rest m k
+    each_backed w (event_left w s c.bytes c.buffer c.place c.tally).state (state_seen w s long c here).1 cs rest m k
 
 -- Demand 2 and demand 3 for one call, from what is seen of it.
 module _ (tm : Tracematch) (b : Book) where

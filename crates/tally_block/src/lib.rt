@@ -1,5 +1,6 @@
 // A tally in three lent words, taken out of them and put into them. For the lent calls.
 #![tactic(auto)]
+
 ghost use Rattle.std.specs.Prelude.{◌≡◌, length};
 ghost use Rattle.blocks.specs.TallyBlock.{tally_size, tally_in, tally_words};
 
