@@ -1,6 +1,7 @@
 // The reader of books: a lent text gives the book, or a number and a place; and the declared names as parts of that text.
 // For the buyer of the Bench level. No public function has a `requires`.
 #![tactic(auto)]
+
 ghost use Rattle.std.specs.Prelude.{◌≡◌, true, ◌+◌};
 ghost use Rattle.form.specs.Text.{is_bytes};
 ghost use Rattle.table.specs.Tables.{name_of};

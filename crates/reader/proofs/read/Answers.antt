@@ -3,7 +3,6 @@ use mathlib.Core.Path.{◌≡◌, sym, ap, ap₂, ◌∙◌}
 use mathlib.Core.Bool.{true}
 use Prim.Native.Nat.{ℕ, ◌≤◌, ◌<◌}
 use native.Mathlib.Omega.{arith}
-use borrow.Author.Rules.{rules}
 use borrow.Author.Tests.{lt-ltb, le-ltb, ne_eqb}
 use lib.Count.{ones}
 use lib.ListN.{length}
@@ -34,8 +33,7 @@ use Rattle.book.specs.declared.Book.{Book}
 use Rattle.book.specs.declared.Reading.{Reading}
 use Rattle.book.specs.declared.ReadingAnswer.TheVariants as Answer
 use Rattle.reader.proofs.Found.{lines_ready, lines_viewed}
-use Rattle.reader.proofs.read.Statement.{statement}
-use Rattle.reader.proofs.read.Tie as tie
+use Rattle.reader.proofs.read.Goals as goal
 
 -- as `book::refused` and `book::book_of` have it
 abbrev refusal : (fault place : ℕ) → Reading
@@ -130,73 +128,38 @@ module _ (s : Bytes) (short : length s ≤ 4096) where
             let n : size whole.tree ≤ 31 = rw o at (few s (ap (λ z. z.number) o)) in
             rw (piece_same vars 0 whole whole_read k, ap (λ z. z.table) e) (sym (ap reading_for o ∙ accepted_reading _ (lines_of s).table whole.tree n))
 
--- at most 4096 bytes
-shorter : (c : tie.Else1) → length c.before.before.args.s.now ≤ 4096
-shorter c = omega arith
+pub returns-then-s-gt-TEXT_LIMIT : goal.returns-then-s-gt-TEXT_LIMIT
+returns-then-s-gt-TEXT_LIMIT c =
+    let lent : is_bytes c.args.s.now ≡ true = bytes_lent c.args.s.now c.type_inv.s in
+    (c.refused.ensures ∙ sym (too_long_law _ c.if-s-gt-TEXT_LIMIT.true), lent)
 
--- the lent text is bytes
-lent : (c : tie.After-shared-slice-known) → is_bytes c.before.args.s.now ≡ true
-lent c = bytes_lent c.before.args.s.now c.shared-slice-known.given
+pub returns-then-l-ne0 : goal.returns-then-l-ne0
+returns-then-l-ne0 c =
+    let shorter : length c.args.s.now ≤ 4096 = omega arith in
+    let lent : is_bytes c.args.s.now ≡ true = bytes_lent c.args.s.now c.type_inv.s in
+    (c.refused-then-l-ne0.ensures ∙ lines_stop _ shorter c.lines_of-l.ensures c.if-l-ne0.true, lent)
 
-refused_requires : tie.Need-refused-requires
-refused_requires c κs = search rules
+pub match_from-m-requires : goal.match_from-m-requires
+match_from-m-requires c =
+    let shorter : length c.args.s.now ≤ 4096 = omega arith in
+    readable _ shorter c.lines_of-l.ensures c.if-l-ne0.false
 
-returns : tie.Need-returns
-returns c = (c.refused.ensures ∙ sym (too_long_law _ c.before.if1.true), lent c.before.before)
-
-lines_of_requires : tie.Need-lines-of-requires
-lines_of_requires c κs = search rules
-
-refused_requires_2 : tie.Need-refused-requires-2
-refused_requires_2 c κs = search rules
-
-returns_2 : tie.Need-returns-2
-returns_2 c =
-    let lines = c.before.before.before in
-    (c.refused2.ensures ∙ lines_stop _ (shorter lines.before) lines.lines_of_law.ensures c.before.if2.true, lent lines.before.before)
-
-match_from_requires : tie.Need-match-from-requires
-match_from_requires c κs =
-    let lines = c.before.before.before in
-    readable _ (shorter lines.before) lines.lines_of_law.ensures c.before.if2.false
-
-refused_requires_3 : tie.Need-refused-requires-3
-refused_requires_3 c κs = search rules
-
-returns_3 : tie.Need-returns-3
-returns_3 c =
-    let match = c.before.before.before in
-    let lines = match.before.before.before.before in (
-      c.refused3.ensures
-          ∙ pattern_stop _ (shorter lines.before) lines.lines_of_law.ensures match.before.before.if2.false match.match-from.ensures
-          c.before.if3.true,
-      lent lines.before.before,
+pub returns-then-m-ne0 : goal.returns-then-m-ne0
+returns-then-m-ne0 c =
+    let shorter : length c.args.s.now ≤ 4096 = omega arith in
+    let lent : is_bytes c.args.s.now ≡ true = bytes_lent c.args.s.now c.type_inv.s in (
+      c.refused-then-m-ne0.ensures
+          ∙ pattern_stop _ shorter c.lines_of-l.ensures c.if-l-ne0.false c.match_from-m.ensures
+          c.if-m-ne0.true,
+      lent,
     )
 
-book_of_requires : tie.Need-book-of-requires
-book_of_requires c κs = search rules
-
-returns_4 : tie.Need-returns-4
-returns_4 c =
-    let match = c.before.before.before.before in
-    let lines = match.before.before.before.before in (
-      rw c.book-of.ensures
-          (accepted_same _ (shorter lines.before) lines.lines_of_law.ensures match.before.before.if2.false match.match-from.ensures
-          c.before.before.if3.false),
-      lent lines.before.before,
+pub returns : goal.returns
+returns c =
+    let shorter : length c.args.s.now ≤ 4096 = omega arith in
+    let lent : is_bytes c.args.s.now ≡ true = bytes_lent c.args.s.now c.type_inv.s in (
+      rw c.book_of-volume.ensures
+          (accepted_same _ shorter c.lines_of-l.ensures c.if-l-ne0.false c.match_from-m.ensures
+          c.if-m-ne0.false),
+      lent,
     )
-
-pub read_spec : {M : Type 1} → statement M
-read_spec =
-    tie.close
-    (tie.spec
-    refused_requires
-    returns
-    lines_of_requires
-    refused_requires_2
-    returns_2
-    match_from_requires
-    refused_requires_3
-    returns_3
-    book_of_requires
-    returns_4)
