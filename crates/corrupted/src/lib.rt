@@ -1,5 +1,6 @@
 // What the program `damage` lends: books, states and records of events, sound ones and ones with damage of a numbered kind.
 #![tactic(auto)]
+
 pub mod amounts;
 pub mod books;
 pub mod records;

@@ -1,6 +1,7 @@
 // Whether two books, states or tallies are equal in every field and every place of every array. For the program `damage`. No comparison
 // branches: each branch would cost the check more than the run of the rest costs.
 #![tactic(auto)]
+
 use book::Book;
 use disjunct::Disjunct;
 use piece::POSITIONS;
