@@ -1,5 +1,6 @@
 // The tally: accepted events, refused events and rows written, by value, and lent in one function; a counter stops at the largest 64-bit value.
 #![tactic(auto)]
+
 ghost use Rattle.std.specs.Prelude.{◌≡◌};
 ghost use Rattle.tally.specs.Tallies.{capped, tallied};
 
