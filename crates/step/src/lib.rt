@@ -1,5 +1,6 @@
 // The step set of a position: its symbol's constraint met with the disjuncts of its sources. For the new labels and the rows.
 #![tactic(auto)]
+
 ghost use Rattle.std.specs.Prelude.{◌≡◌, true, ◌&&◌, [], ◌∷◌, map, ◌-◌, ◌≤◌, ◌<◌, leb, length, take, get_or};
 ghost use Rattle.laws.specs.Bits.{bit};
 ghost use Rattle.laws.specs.Lists.{all};
