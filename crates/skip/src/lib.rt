@@ -1,5 +1,6 @@
 // The skip set of a position: its old label taken through all symbols in declaration order. For the new labels.
 #![tactic(auto)]
+
 ghost use Rattle.std.specs.Prelude.{◌≡◌, true, map, ℕ, ◌≤◌, ◌<◌, eqb, take, drop, get_or};
 ghost use Rattle.laws.specs.Lists.{keep};
 ghost use Rattle.laws.specs.Order.{ascending};
