@@ -3,7 +3,7 @@
 use mathlib.Core.Path.{◌≡◌, refl, sym, ap, subst, ◌∙◌}
 use mathlib.Core.Bool.{Bool, true, false, cond}
 use mathlib.Core.List.{List, [], ◌∷◌, ◌++◌, map, map-id, map-append, append-nil, append_assoc, Memᴰ}
-use Prim.Native.Nat.{ℕ, zero, suc, ◌+◌, ◌-◌, ◌*◌, ◌≤◌, ◌<◌}
+use Prim.Native.Nat.{ℕ, zero, suc, ◌+◌, ◌*◌, ◌≤◌, ◌<◌}
 use native.Mathlib.Nat.{eq-or-lt_of_le}
 use mathlib.Core.Logic.{⊎_elim}
 use native.Mathlib.Omega.{arith}
@@ -20,7 +20,6 @@ use Rattle.runs.specs.Runs.{Machine, state_from, behind_trace, Within}
 use Rattle.runs.proofs.Runs.{trace_more, within_at, within_mem, results_take, result_at, followed}
 use Rattle.runs.proofs.Accepted.{passed_at}
 use Rattle.meaning.specs.Meaning.{Tracematch}
-use Rattle.meaning.specs.Room.{room}
 use Rattle.meaning.specs.Sound.{event_limit}
 use Rattle.form.specs.Text.{Bytes, is_bytes}
 use Rattle.record.specs.Records.{is_record, event_in}

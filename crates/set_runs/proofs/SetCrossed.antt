@@ -58,7 +58,7 @@ module _ {texts : List Bytes} {tms : List Tracematch} (ds : AllDeclare texts tms
       }
 
   -- all lists are the same where each is
-  same_lists : {us : List Tracematch} {t u : List Event} {n m : ℕ} {ls ms : List (List Valuation)} → Listings t n us ls → Listings u m us ms
+  same_lists : {t u : List Event} {n m : ℕ} {us : List Tracematch} {ls ms : List (List Valuation)} → Listings t n us ls → Listings u m us ms
       → ((k : ℕ) (tm : Tracematch) → Within us k tm → get_or ls k [] ≡ get_or ms k []) → ls ≡ ms
   same_lists no_list no_list h = refl
   same_lists (one_list {tm = tm} x l) (one_list y r) h =
