@@ -1,8 +1,8 @@
 -- What the types alone tell of the symbols in an array and in a book: each has four parameters, so that its words are ten. The kit says it of a
 -- parameter as a part of `c.good`. For the functions that put symbols into words.
-use mathlib.Core.Path.{◌≡◌, refl, sym, subst, ◌∙◌}
+use mathlib.Core.Path.{◌≡◌, refl, sym, subst}
 use mathlib.Core.List.Memᴰ
-use mathlib.Core.List.{List, [], ◌∷◌, map, Memᴰ}
+use mathlib.Core.List.{List, [], ◌∷◌, Memᴰ}
 use mathlib.Core.Logic.{⊎_elim}
 use Prim.Native.Nat.{ℕ}
 use native.Mathlib.Omega.{arith}
@@ -11,11 +11,9 @@ use denote.Laws.{Is}
 use denote.Shadow.{shadow}
 use denote.Array.{Array, each}
 use mir.Val.{Val}
-use lib.ListN.{length, length-map}
-use Rattle.laws.proofs.Lists.{mem_map}
+use lib.ListN.{length}
 use Rattle.laws.proofs.Fronts.{gather_length}
 use Rattle.table.specs.declared.Symbol.{Symbol}
-use Rattle.table.specs.contracts.Parameter as parameters
 use Rattle.table.specs.contracts.Symbol as symbols
 use Rattle.book.specs.declared.Book.{Book}
 use Rattle.book.specs.contracts.Book as books
@@ -29,9 +27,8 @@ each_told own P one (e ∷ ds) [] h d m = absurd h
 each_told own P one (e ∷ ds) (u ∷ us) h d m =
     ⊎_elim (λ s. subst P (sym s) (one e u h.0)) (each_told own P one ds us h.1 d) (Memᴰ.cases_cons m)
 
-ten_words : (y : Symbol) → length (map (parameters.the_field).into y.parameters) ≡ 4 → length (symbol_words y) ≡ 10
+ten_words : (y : Symbol) → length y.parameters ≡ 4 → length (symbol_words y) ≡ 10
 ten_words y h =
-    let four : length y.parameters ≡ 4 = sym (length-map y.parameters (parameters.the_field).into) ∙ h in
     omega (arith, gather_length parameter_words 2 y.parameters (λ p m. refl))
 
 pub symbols_words : (n : ℕ) (ys : List Symbol) {vs : List Val} → Is (Array symbols.the_row n) ys vs → (y : Symbol) → Memᴰ y ys
@@ -42,7 +39,4 @@ symbols_words n ys h =
 pub table_words : (b : Book) {vs : List Val} → Is books.the_row b vs → (y : Symbol) → Memᴰ y b.table → length (symbol_words y) ≡ 10
 table_words b h y m =
     let a = h.1.1.1.1.1.0 in
-    let into = (symbols.the_field).into in
-    ten_words y
-    (each_told (symbols.the_field).row.own_val (λ t. length t.1.1.0 ≡ 4) (λ t u k. k.1.1.1.1.0.1.0.1) (map into b.table) a.0 a.1.1 (into y)
-    ((mem_map into (into y) b.table).1 (y, m, refl)))
+    each_told (symbols.the_row).own_val (λ y. length (symbol_words y) ≡ 10) (λ y u k. ten_words y k.1.1.1.1.0.1.0.1) b.table a.0 a.1.1 y m

@@ -1,6 +1,7 @@
 // The book in a block of lent words: taken out of any words, and put into them. For the lent calls. Functions take slices, so that a part of a
 // longer slice can be lent.
 #![tactic(auto)]
+
 ghost use Rattle.std.specs.Prelude.{◌≡◌, true, map, ◌*◌, ◌≤◌, length, take};
 ghost use Rattle.laws.specs.Lists.{all, gather};
 ghost use Rattle.laws.specs.Parts.{front};

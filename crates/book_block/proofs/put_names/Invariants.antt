@@ -1,0 +1,14 @@
+-- `put_names` meets its contract: after i turns the words of the first i names stand over the front of what was lent.
+use mathlib.Core.Path.{◌≡◌}
+use Prim.Native.Nat.{◌-◌, ◌≤◌}
+use lib.ListN.{length, take}
+use Rattle.laws.specs.Lists.{gather}
+use Rattle.laws.specs.Parts.{front}
+use Rattle.blocks.specs.BookBlock.{name_words}
+use Rattle.book_block.proofs.put_names.Given as goal
+
+abbrev pub invariant-loop-i : goal.invariant-loop-i
+invariant-loop-i l = (l.i ≤ 20) × (length l.words ≡ length l.initial.words) × (l.words ≡ front (gather name_words (take l.i l.names)) l.initial.words)
+
+abbrev pub decreases-loop-i : goal.decreases-loop-i
+decreases-loop-i l = 20 - l.i

@@ -1,0 +1,14 @@
+-- `put_parameters` meets its contract: after i turns the words of the first i parameters stand over the front of what was lent.
+use mathlib.Core.Path.{◌≡◌}
+use Prim.Native.Nat.{◌-◌, ◌≤◌}
+use lib.ListN.{length, take}
+use Rattle.laws.specs.Lists.{gather}
+use Rattle.laws.specs.Parts.{front}
+use Rattle.blocks.specs.BookBlock.{parameter_words}
+use Rattle.book_block.proofs.put_parameters.Given as goal
+
+abbrev pub invariant-loop-i : goal.invariant-loop-i
+invariant-loop-i l = (l.i ≤ 4) × (length l.words ≡ length l.initial.words) × (l.words ≡ front (gather parameter_words (take l.i l.parameters)) l.initial.words)
+
+abbrev pub decreases-loop-i : goal.decreases-loop-i
+decreases-loop-i l = 4 - l.i
