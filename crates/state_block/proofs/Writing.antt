@@ -12,10 +12,9 @@ use borrow.Author.Tests.{leb-true}
 use denote.Laws.{Is}
 use denote.Shadow.{shadow}
 use denote.Array.{each}
-use denote.Struct.Field.{u32-field}
 use mir.Val.{Val}
 use lib.Dec.{leb}
-use lib.ListN.{length, take, get_or, set, replicate, length-map, replicate-append-replicate}
+use lib.ListN.{length, take, get_or, set, replicate, replicate-append-replicate}
 use lib.Seq.{sets}
 use Rattle.laws.specs.Lists.{gather}
 use Rattle.laws.specs.Parts.{front, splice, pad}
@@ -111,7 +110,7 @@ fresh_words n h = fresh_places n 128 128 (omega arith)
 
 -- what the type tells of a state
 pub positions_sized : (s : State) {vs : List Val} → Is states.the_row s vs → length s.positions ≡ 128
-positions_sized s h = sym (length-map s.positions u32-field.into) ∙ h.1.1.1.1.0.1.0.1
+positions_sized s h = h.1.1.1.1.0.1.0.1
 
 -- `store`: the words before the positions, the positions, and the groups, one after the other
 pub stored_thrice : (w h v r : List ℕ) (old m : ℕ) (s : State) → old ≡ get_or w 2 0 → m ≡ max old s.count → h ≡ front (state_head s) w

@@ -1,6 +1,7 @@
 // The state in a block of lent words: taken out of any words, stored in them, and made fresh. For the lent calls. Functions take slices, so that a
 // part of a longer slice can be lent.
 #![tactic(auto)]
+
 ghost use Rattle.std.specs.Prelude.{◌≡◌, [], ◌∷◌, map, ◌*◌, ◌≤◌, min, max, length, get_or, take};
 ghost use Rattle.laws.specs.Lists.{gather};
 ghost use Rattle.laws.specs.Parts.{front, pad};
