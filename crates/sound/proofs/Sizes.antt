@@ -1,5 +1,5 @@
 -- What the types alone tell of a slot, a state and a book: the lengths of their arrays, and that their numbers are words. The kit
--- says it of a parameter as a part of `c.good`. For the functions of this crate and for the event call.
+-- says it of a parameter as a part of `c.well_formed`. For the functions of this crate and for the event call.
 use mathlib.Core.Path.{◌≡◌, refl, ap₂}
 use mathlib.Core.Bool.{true, ◌&&◌}
 use mathlib.Core.List.{List, [], ◌∷◌, Memᴰ}

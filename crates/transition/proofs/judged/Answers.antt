@@ -1,0 +1,39 @@
+-- `transition::judged` meets its contract: the lent words hold what the state holds, made wide, so that each test is that of a check, and what they
+-- hold then is the state after the event.
+use mathlib.Core.Path.{refl}
+use Rattle.sound.proofs.Soundness.{book_counts_law, state_count, state_number}
+use Rattle.transition.proofs.Checks.{refused_by, judged_free, judged_many, judged_none}
+use Rattle.transition.proofs.Steps.{begins_sound, holding, free_known, no_room_law, accepted_by}
+use Rattle.transition.proofs.judged.Goals as goal
+
+pub load-requires : goal.load-requires
+load-requires c =
+    let p = c.requires in
+    (state_count _ _ p.1, (book_counts_law _ p.0).0)
+
+pub take_event-r-requires : goal.take_event-r-requires
+take_event-r-requires c =
+    let p = c.requires in
+    (p.0, begins_sound _ p.0, p.2, state_count _ _ p.1, holding _ _ p.1 _ _ c.load.ensures)
+
+pub returns-then-r : goal.returns-then-r
+returns-then-r c =
+    let left = c.take_event-r.ensures (holding _ _ c.requires.1 _ _ c.load.ensures) in
+    refused_by _ _ _ _ (judged_free _ _ _ (free_known _ _ _ _ _ _ _ left c.if-r.true)) refl c.refusal.ensures
+
+pub returns-then-state-eq-EVENTS : goal.returns-then-state-eq-EVENTS
+returns-then-state-eq-EVENTS c =
+    let left = c.take_event-r.ensures (holding _ _ c.requires.1 _ _ c.load.ensures) in
+    refused_by _ _ _ _ (judged_many _ _ _ (free_known _ _ _ _ _ _ _ left c.if-r.false) c.if-state-eq-EVENTS.true) refl c.refusal-then-state-eq-EVENTS.ensures
+
+pub returns-then-r-gt-CAPACITY : goal.returns-then-r-gt-CAPACITY
+returns-then-r-gt-CAPACITY c =
+    let left = c.take_event-r.ensures (holding _ _ c.requires.1 _ _ c.load.ensures) in
+    refused_by _ _ _ _
+    (judged_none _ _ _ (free_known _ _ _ _ _ _ _ left c.if-r.false) c.if-state-eq-EVENTS.false (no_room_law _ _ _ _ _ _ _ left c.if-r-gt-CAPACITY.true))
+    refl c.refusal-then-r-gt-CAPACITY.ensures
+
+pub returns : goal.returns
+returns c =
+    let left = c.take_event-r.ensures (holding _ _ c.requires.1 _ _ c.load.ensures) in
+    accepted_by _ _ _ _ _ _ _ left c.if-r.false (state_number _ _ c.requires.1) c.if-state-eq-EVENTS.false c.if-r-gt-CAPACITY.false
