@@ -1,5 +1,6 @@
 // The new label of one position after an event, and all that are held with it, or no room. For `advance`, which goes over the positions.
 #![tactic(auto)]
+
 ghost use Rattle.std.specs.Prelude.{◌≡◌, true, not, map, ℕ, ◌≤◌, ◌<◌, eqb, length, take, get_or};
 ghost use Rattle.laws.specs.Order.{ascending};
 ghost use Rattle.laws.specs.Sets.{Grown};
