@@ -2,6 +2,7 @@
 // reads and writes with the index tested: 0 where there is nothing, no change where there is no such index. For `invented` and
 // `second`; the reads and writes for the second reader too.
 #![tactic(auto)]
+
 use record::RECORD;
 
 // An entry. Entry 0: the count of variables at COUNT, parameters 1 to 4, the largest value, how many valuations there are. A symbol or an

@@ -1,6 +1,7 @@
 // The lines before the pattern, byte by byte: words divided by one space, each judged where it ends by the line's number and its own.
 // For `scanner`, the second reader.
 #![tactic(auto)]
+
 mod numbers;
 
 use noted::{FROM, RUN, WORD_COUNT, declared};

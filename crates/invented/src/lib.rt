@@ -1,6 +1,7 @@
 // A random trial: a book with its text, and events with their records. For `trials` and for the sets of `set_trials`; the words of a trial are laid
 // out in `cells`. A number is drawn by the place that it is for, so that no two draws are the same.
 #![tactic(auto)]
+
 mod books;
 mod events;
 mod texts;

@@ -1,6 +1,7 @@
 // What the second reader has noted so far, a word to each thing, read and written by `cells`. For `scanner`, which reads a text byte by
 // byte; what it notes of names is in `declared`, of the pattern's words in `levels`.
 #![tactic(auto)]
+
 pub mod declared;
 pub mod levels;
 

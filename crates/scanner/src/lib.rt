@@ -1,6 +1,7 @@
 // The second reader: number and place for any text of a book, by documents 01 and 02. One pass over the bytes, with what has been noted so
 // far in lent words; it shares no code with the reader and has no recursion. For the program `texts`, which compares the two.
 #![tactic(auto)]
+
 mod tokens;
 
 use noted::declared;

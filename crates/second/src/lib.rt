@@ -2,6 +2,7 @@
 // concern it is tried against the pattern's tree. It knows no positions, labels or disjuncts. For `trials` and `set_trials`, with the
 // comparison of its rows with the watch's; the words of a trial are laid out in `cells`.
 #![tactic(auto)]
+
 mod compared;
 mod concern;
 mod stretches;
