@@ -1,6 +1,7 @@
 // The rows of an event collected from the sources of its ending positions, and on the way the test for a row that would leave a variable free.
 // For `matcher`.
 #![tactic(auto)]
+
 ghost use Rattle.std.specs.Prelude.{◌≡◌, true, cond, ◌||◌, [], ◌∷◌, map, ℕ, ◌≤◌, ◌<◌, take, get_or};
 ghost use Rattle.laws.specs.Bits.{bit};
 ghost use Rattle.laws.specs.Sets.{within, grow};
