@@ -1,5 +1,6 @@
 // All new labels after an event, position by position, or no room. For `matcher`.
 #![tactic(auto)]
+
 ghost use Rattle.std.specs.Prelude.{◌≡◌, true, cond, map, ℕ, ◌≤◌, ◌<◌, take, get_or};
 ghost use Rattle.laws.specs.Sets.{Grown};
 ghost use Rattle.meaning.specs.Events.{Event, constraint_of};
