@@ -1,6 +1,7 @@
 // The pure step of an event over lent words: its rows, with the test for a row that would leave a variable free, and then the new labels. It knows
 // no state, no record and no answer. For `transition`.
 #![tactic(auto)]
+
 ghost use Rattle.std.specs.Prelude.{◌≡◌, true, ◌≤◌};
 ghost use Rattle.meaning.specs.Book.{starting_at, sound_book};
 ghost use Rattle.meaning.specs.Room.{held_limit};
