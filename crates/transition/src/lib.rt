@@ -1,6 +1,7 @@
 // The pure step of an event call: a record decoded, the checks 9 to 12, the new labels and the rows in lent words. No state is stored and nothing is
 // written to a row buffer here: the crate watch does that, once every check has passed.
 #![tactic(auto)]
+
 ghost use Rattle.std.specs.Prelude.{◌≡◌, true, false, ◌≤◌};
 ghost use Rattle.meaning.specs.Limits.{argument_limit};
 ghost use Rattle.record.specs.Records.{event_in, view_event};

@@ -9,12 +9,11 @@ pub sound_state-requires : goal.sound_state-requires
 sound_state-requires c = (book_counts_law _ (sym c.sound_book.ensures ∙ c.if-sound_book.true)).0
 
 pub judged-requires : goal.judged-requires
-judged-requires c =
-    (
-      sym c.sound_book.ensures ∙ c.if-sound_book.true,
-      sym c.sound_state.ensures ∙ c.if-sound_state.true,
-      decoded_few _ _ c.decode-d.ensures c.if-d.true,
-    )
+judged-requires c = (
+  sym c.sound_book.ensures ∙ c.if-sound_book.true,
+  sym c.sound_state.ensures ∙ c.if-sound_state.true,
+  decoded_few _ _ c.decode-d.ensures c.if-d.true,
+)
 
 pub returns-then-d : goal.returns-then-d
 returns-then-d c =
@@ -33,7 +32,7 @@ returns c =
     let book = c.sound_book.ensures in
     refused_by _ _ _ _
     (elim c.if-sound_book.branch [
-      then-sound_book+else-sound_state w ↦ first_state _ _ _ (sym book ∙ w.if-sound_book.true) (sym w.sound_state.ensures ∙ w.if-sound_state.false)
-    | else-sound_book w ↦ first_book _ _ _ (sym book ∙ w.if-sound_book.false)
+      | then-sound_book+else-sound_state w ↦ first_state _ _ _ (sym book ∙ w.if-sound_book.true) (sym w.sound_state.ensures ∙ w.if-sound_state.false)
+      | else-sound_book w ↦ first_book _ _ _ (sym book ∙ w.if-sound_book.false)
     ])
     refl c.refusal-2.ensures
