@@ -1,5 +1,6 @@
 // The watch: the public calls. A book is read, a state is started afresh, and every event is taken as it comes.
 #![tactic(auto)]
+
 ghost use Rattle.std.specs.Prelude.{◌≡◌, true};
 ghost use Rattle.form.specs.Text.{is_bytes};
 ghost use Rattle.calls.specs.Calls.{fresh_state, taken, buffer_after};
