@@ -72,13 +72,13 @@ pub record Sized (d : Disjunct) : Type 0 where
   pub four : length d.vars ≡ 4
   pub six : all six_exclusions d.vars ≡ true
 
--- what the kit tells of a disjunct: a parameter's `c.good.0`, or what a call gives, `c.f.ok`
+-- what the kit tells of a disjunct: a parameter's part of `c.well_formed`, or what a call gives, `c.f.type_inv`
 pub sized : (d : Disjunct) {vs : List Val} → Is disjuncts.the_row d vs → Sized d
 sized d h =
     let a = h.1.1.0 in
     record { four = a.1.0.1; six = six_slots d.vars a.0 a.1.1 }
 
--- of each disjunct of an array: with a the array's part of `c.good`, us is a.0 and the fact a .1 .1
+-- of each disjunct of an array: with a the array's part of `c.well_formed`, us is a.0 and the fact a .1 .1
 pub sized_in : (l : List Disjunct) (us : List Val)
     → shadow (each (disjuncts.the_row).Denot (disjuncts.the_row).own_val l us)
     → (d : Disjunct) → Memᴰ d l → Sized d
