@@ -1,5 +1,6 @@
 // The event call with the tally lent: "is lent to each call that counts and changed there". Over the by-value call of the crate watch.
 #![tactic(auto)]
+
 ghost use Rattle.std.specs.Prelude.{◌≡◌, true};
 ghost use Rattle.form.specs.Text.{is_bytes};
 ghost use Rattle.calls.specs.Calls.{taken, buffer_after};
