@@ -39,12 +39,19 @@ use Rattle.demands.proofs.States.{lengths}
 use Rattle.transition.specs.declared.Stepped.{Stepped}
 use Rattle.transition.specs.Moves.{Moved, Decided}
 use Rattle.transition.proofs.Checks.{first_book, first_state}
+use Rattle.blocks.specs.BookBlock.{book_in}
 use Rattle.blocks.specs.StateBlock.{state_held, state_in, unknown_state}
 use Rattle.parts.specs.Parts.{row_with}
 
 -- rows of at most four values
 abbrev Few : List Valuation → Type 0
 Few l = (σ : Valuation) → Memᴰ σ l → length σ ≤ 4
+
+-- what no check refuses as the words say it, none refuses of the book and the state taken out of them
+pub said_zero : {b : Book} {s : State} (w sw : List ℕ) (bytes : Bytes) → b ≡ book_in w → s ≡ state_in sw
+    → number_of (first_failing Accepted (decisions (book_in w) (state_in sw) bytes)) ≡ 0
+    → number_of (first_failing Accepted (decisions b s bytes)) ≡ 0
+said_zero w sw bytes book state zero = ap₂ (λ b s. number_of (first_failing Accepted (decisions b s bytes))) book state ∙ zero
 
 -- what the pure step leaves where its answer has the number 0
 pub passed_moved : {b : Book} {s : State} (bytes : Bytes) {x : Stepped} {at next out : List ℕ}

@@ -1,6 +1,7 @@
 // One part of a call over several: a book and its state in lent words, judged on an event, and then moved by it. For the calls of a set, which judge
 // every part before any is moved.
 #![tactic(auto)]
+
 ghost use Rattle.std.specs.Prelude.{◌≡◌, suc, ◌+◌, ◌*◌, ◌≤◌, length};
 ghost use Rattle.laws.specs.Checks.{first_failing};
 ghost use Rattle.laws.specs.Lists.{gather};
