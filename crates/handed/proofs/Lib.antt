@@ -1,3 +1,2 @@
--- For the proofs of the functions: what the two walks by hand share (Lent), and promises carried to a result (Carried).
-pub mod Lent
+-- For the proofs of the functions: promises carried to a result (Carried).
 pub mod Carried

@@ -1,6 +1,7 @@
 // The public calls again, each handed on as it is: every contract here says of the very result what the theorems say of it (promises/specs), so
 // that contract and theorems speak of one thing, whatever the contract of the call below names. No public function has a `requires`.
 #![tactic(auto)]
+
 ghost use Rattle.std.specs.Prelude.{◌≡◌, true, ℕ, ◌+◌};
 ghost use Rattle.form.specs.Text.{is_bytes};
 ghost use Rattle.tally.specs.Tallies.{tallied};
