@@ -1,3 +1,2 @@
--- Laws of the tally, and words for the walks over references to it.
+-- Laws of the tally.
 pub mod Tallies
-pub mod Walks
