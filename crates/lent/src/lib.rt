@@ -3,6 +3,7 @@
 // `requires`: any words, bytes, places and numbers are taken or refused. What is lent to one call must not overlap, which borrows see to in Rattle
 // and Rust and a caller in C has to (bindings/c/watch.h).
 #![tactic(auto)]
+
 ghost use Rattle.std.specs.Prelude.{◌≡◌, true, length};
 ghost use Rattle.form.specs.Text.{is_bytes};
 ghost use Rattle.book.specs.Books.{name_place};
