@@ -1,5 +1,6 @@
 // The calls over lent words as C and Rust see them (bindings/c/watch.h): each hands on the call of the crate lent, with its clauses.
 #![tactic(auto)]
+
 ghost use Rattle.std.specs.Prelude.{◌≡◌, true};
 ghost use Rattle.form.specs.Text.{is_bytes};
 ghost use Rattle.book.specs.Books.{name_place};

@@ -1,6 +1,7 @@
 // Several books on one line, over lent memory, for programs in C and Rust too: the books of a set in one slice of words, their states in another, and a
 // count. An event that one book would refuse is taken by none. No call has a `requires`, and none keeps anything; see the crate lent for what is lent.
 #![tactic(auto)]
+
 ghost use Rattle.std.specs.Prelude.{◌≡◌, true, ◌+◌, ◌*◌, ◌≤◌, length};
 ghost use Rattle.laws.specs.Checks.{first_failing};
 ghost use Rattle.laws.specs.Lists.{gather, numbers};

@@ -1,5 +1,6 @@
 // The calls of a set of books as C and Rust see them: each hands on the call of the crate lent_set, with its clauses.
 #![tactic(auto)]
+
 ghost use Rattle.std.specs.Prelude.{◌≡◌, true};
 ghost use Rattle.form.specs.Text.{is_bytes};
 ghost use Rattle.parts.specs.SetBlock.{set_left, set_fresh};
