@@ -1,5 +1,5 @@
 -- What the types alone tell of the symbols in an array and in a book: each has four parameters, so that its words are ten. The kit says it of a
--- parameter as a part of `c.good`. For the functions that put symbols into words.
+-- parameter as a part of `c.well_formed`. For the functions that put symbols into words.
 use mathlib.Core.Path.{◌≡◌, refl, sym, subst}
 use mathlib.Core.List.Memᴰ
 use mathlib.Core.List.{List, [], ◌∷◌, Memᴰ}
