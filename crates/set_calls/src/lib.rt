@@ -1,6 +1,7 @@
 // Calls on a set of random books, each held to what the plain call does with each book alone from the state that the set has of it; its rows are noted,
 // book by book, for the second matcher. For the program `set_trials`; `cells` lays out the trial of one book.
 #![tactic(auto)]
+
 mod alone;
 mod chosen;
 mod left;
