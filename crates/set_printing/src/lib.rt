@@ -3,6 +3,8 @@
 // count, then its rows, each with its book.
 #![tactic(auto)]
 
+ghost use Rattle.std.specs.Prelude.{◌^◌, ◌<◌};
+
 use lent_set::{BOOK_WORDS, BOOKS, STATE_WORDS, TALLY_WORDS};
 use std::io::{ErrorKind, Read, Write};
 use std::rt::Files;
@@ -126,21 +128,33 @@ fn read_files(
 }
 
 // All records of a reader, a last short one too. A proved loop has to end, and nothing says that the input does, so it also ends at the largest
-// 64-bit number of a record.
-fn list<E: Read, W: Write>(
+// 64-bit number of a record. N bytes are lent for rows: a parameter, so that no proof computes an array of so many.
+fn list<E: Read, W: Write, const N: usize>(
     books: &[u32],
     count: usize,
     events: &mut E,
     writer: &mut W,
+) -> io::Result<()>
+    requires { N < 2 ^ 32 }
+{
+    let mut rows = [0u8; N];
+    list_over(books, count, events, writer, &mut rows)
+}
+
+// The same over what is lent for rows.
+fn list_over<E: Read, W: Write>(
+    books: &[u32],
+    count: usize,
+    events: &mut E,
+    writer: &mut W,
+    rows: &mut [u8],
 ) -> io::Result<()> {
     let mut states_space = [0u32; BOOKS * STATE_WORDS];
     let mut tally = [0u64; TALLY_WORDS];
     let mut bytes_space = [0u8; RECORD];
-    let mut rows_space = [0u8; ROWS];
     let mut out_space = [0u8; BUFFER];
     let states: &mut [u32] = &mut states_space;
     let bytes: &mut [u8] = &mut bytes_space;
-    let rows: &mut [u8] = &mut rows_space;
     let out: &mut [u8] = &mut out_space;
     lent_set::watch_set_fresh(states, count);
     let mut row_count: usize = 0;
@@ -176,7 +190,7 @@ fn print_open<R: Files + Print + Eprint, E: Read>(
     let mut books = [0u32; BOOKS * BOOK_WORDS];
     let found = read_files(rt, first, &mut books)?;
     if found.good {
-        list(&books, found.count, events, &mut io::writer(rt))?;
+        list::<_, _, ROWS>(&books, found.count, events, &mut io::writer(rt))?;
     }
     Ok(())
 }

@@ -1,6 +1,6 @@
--- `set_printing::list` is safe and ends: no more bytes are read than the record has room for, and the numbers that are left fall.
+-- `set_printing::list_over` is safe and ends: no more bytes are read than the record has room for, and the numbers that are left fall.
 use Rattle.std.proofs.Common.{length, ◌≤◌, ◌-◌}
-use Rattle.set_printing.proofs.list.Given as goal
+use Rattle.set_printing.proofs.list_over.Given as goal
 
 abbrev pub invariant-loop-number : goal.invariant-loop-number
 invariant-loop-number g l = l.size ≤ length l.bytes
