@@ -26,7 +26,7 @@
  *
  * Linking. The archive asks of the linker nothing but memcpy and memset (or their like: memmove, memcmp, bcmp).
  *
- * What each call gives and leaves, as stated below, is proved of its source (crates/lent); that this header declares the same
+ * What each call gives and leaves, as stated below, is proved of its source (crates/lent_c over crates/lent); that this header declares the same
  * calls, and what the compiler makes of them, is tried by bindings/test.
  */
 #ifndef WATCH_H

@@ -59,7 +59,7 @@ fn list<E: Read, W: Write>(
         number += 1;
         at = output::put_line(writer, out, at, number, answer, count)?;
         at = output::put_rows(writer, out, at, rows, count, variables(rows))?;
-        size = input::fill(events, bytes)?;
+        size = output::next_record(events, bytes, writer, out, at)?;
     }
     output::flush(writer, out, at)
 }

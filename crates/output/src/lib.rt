@@ -2,12 +2,12 @@
 // `book`, number, place. For the listings over values and over lent words; of a set of books each row and each refused text also has its book.
 #![tactic(auto)]
 
-ghost use Rattle.std.specs.Prelude.{◌≤◌};
+ghost use Rattle.std.specs.Prelude.{◌≤◌, length, IfOk};
 
 use itoa::Buffer;
 use row::ROW;
 use std::io;
-use std::io::Write;
+use std::io::{Read, Write};
 
 // How much of the output is gathered before it is written.
 const GATHERED: usize = 65000;
@@ -30,6 +30,25 @@ pub fn flush<W: Write>(writer: &mut W, out: &[u8], at: usize) -> io::Result<()> 
         writer.write_all(&out[..at])?;
     }
     Ok(())
+}
+
+// The next record of a reader, into the buffer: how many bytes it has. Where reading fails, what is gathered is written first.
+pub fn next_record<E: Read, W: Write>(
+    events: &mut E,
+    bytes: &mut [u8],
+    writer: &mut W,
+    out: &[u8],
+    at: usize,
+) -> io::Result<usize>
+    ensures { IfOk result (λ n. n ≤ length bytes.new) }
+{
+    match input::fill(events, bytes) {
+        Ok(n) => Ok(n),
+        Err(e) => {
+            flush(writer, out, at)?;
+            Err(e)
+        }
+    }
 }
 
 // Writes what is gathered where less than a line's room is left.

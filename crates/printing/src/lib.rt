@@ -42,7 +42,7 @@ fn list<E: Read, W: Write>(
         at = output::put_rows(writer, out, at, rows, r.rows, book.variables)?;
         state = r.state;
         tally = r.tally;
-        size = input::fill(events, bytes)?;
+        size = output::next_record(events, bytes, writer, out, at)?;
     }
     output::flush(writer, out, at)
 }

@@ -175,7 +175,7 @@ fn list_over<E: Read, W: Write>(
         number += 1;
         at = output::put_line(writer, out, at, number, answer, row_count)?;
         at = output::put_set_rows(writer, out, at, rows, row_count)?;
-        size = input::fill(events, bytes)?;
+        size = output::next_record(events, bytes, writer, out, at)?;
     }
     output::flush(writer, out, at)
 }
