@@ -2,7 +2,7 @@
 // `book`, number, place. For the listings over values and over lent words; of a set of books each row and each refused text also has its book.
 #![tactic(auto)]
 
-ghost use Rattle.std.specs.Prelude.{◌≤◌, length, IfOk};
+ghost use Rattle.std.specs.Prelude.{◌≡◌, ◌<◌, ◌≤◌, length, IfOk, OnErr};
 
 use itoa::Buffer;
 use row::ROW;
@@ -24,15 +24,18 @@ fn least(a: usize, b: usize) -> usize
     if a < b { a } else { b }
 }
 
-// Writes what is gathered.
-pub fn flush<W: Write>(writer: &mut W, out: &[u8], at: usize) -> io::Result<()> {
+// Writes what is gathered. Here as below an error is the writer's own, and comes only where something had to be written.
+pub fn flush<W: Write>(writer: &mut W, out: &[u8], at: usize) -> io::Result<()>
+    ensures { OnErr result (at ≤ length out.now) }
+{
     if at <= out.len() {
         writer.write_all(&out[..at])?;
     }
     Ok(())
 }
 
-// The next record of a reader, into the buffer: how many bytes it has. Where reading fails, what is gathered is written first.
+// The next record of a reader, into the buffer: how many bytes it has. Where reading fails, what is gathered is written first, and the reader's error
+// is handed on.
 pub fn next_record<E: Read, W: Write>(
     events: &mut E,
     bytes: &mut [u8],
@@ -40,7 +43,8 @@ pub fn next_record<E: Read, W: Write>(
     out: &[u8],
     at: usize,
 ) -> io::Result<usize>
-    ensures { IfOk result (λ n. n ≤ length bytes.new) }
+    ensures read { IfOk result (λ n. n ≤ length bytes.new) }
+    ensures failed { OnErr result (length bytes.new ≡ length bytes.old) }
 {
     match input::fill(events, bytes) {
         Ok(n) => Ok(n),
@@ -52,7 +56,9 @@ pub fn next_record<E: Read, W: Write>(
 }
 
 // Writes what is gathered where less than a line's room is left.
-fn room<W: Write>(writer: &mut W, out: &[u8], at: usize) -> io::Result<usize> {
+fn room<W: Write>(writer: &mut W, out: &[u8], at: usize) -> io::Result<usize>
+    ensures { OnErr result (65000 < at) }
+{
     if at <= GATHERED {
         return Ok(at);
     }
@@ -128,26 +134,25 @@ fn put_values(out: &mut [u8], at: usize, row: &[u8], variables: usize) -> usize 
     put(out, k, b'\n')
 }
 
-// One row: `row` and the values.
+// One row: `row` and the values. An error leaves the buffer as it was.
 fn put_row<W: Write>(
     writer: &mut W,
     out: &mut [u8],
     at: usize,
     row: &[u8],
     variables: usize,
-) -> io::Result<usize> {
+) -> io::Result<usize>
+    ensures { OnErr result (out.new ≡ out.old) }
+{
     let start = room(writer, out, at)?;
     let k = put_all(out, start, b"row");
     Ok(put_values(out, k, row, variables))
 }
 
-// One row of a set: `row`, its book, and the values, as many as the row says.
-fn put_set_row<W: Write>(
-    writer: &mut W,
-    out: &mut [u8],
-    at: usize,
-    row: &[u8],
-) -> io::Result<usize> {
+// One row of a set: `row`, its book, and the values, as many as the row says. An error leaves the buffer as it was.
+fn put_set_row<W: Write>(writer: &mut W, out: &mut [u8], at: usize, row: &[u8]) -> io::Result<usize>
+    ensures { OnErr result (out.new ≡ out.old) }
+{
     let start = room(writer, out, at)?;
     let a = put_all(out, start, b"row ");
     let b = put_number(out, a, byte(row, BOOK));
@@ -162,7 +167,9 @@ pub fn put_rows<W: Write>(
     rows: &[u8],
     count: usize,
     variables: usize,
-) -> io::Result<usize> {
+) -> io::Result<usize>
+    ensures { OnErr result (length out.new ≡ length out.old) }
+{
     let n = least(count, rows.len() / ROW);
     let mut k = at;
     let mut i: usize = 0;
@@ -181,7 +188,9 @@ pub fn put_set_rows<W: Write>(
     at: usize,
     rows: &[u8],
     count: usize,
-) -> io::Result<usize> {
+) -> io::Result<usize>
+    ensures { OnErr result (length out.new ≡ length out.old) }
+{
     let n = least(count, rows.len() / ROW);
     let mut k = at;
     let mut i: usize = 0;
@@ -193,7 +202,7 @@ pub fn put_set_rows<W: Write>(
     Ok(k)
 }
 
-// The line of a record: its number, the answer and the row count.
+// The line of a record: its number, the answer and the row count. An error leaves the buffer as it was.
 pub fn put_line<W: Write>(
     writer: &mut W,
     out: &mut [u8],
@@ -201,7 +210,9 @@ pub fn put_line<W: Write>(
     number: u64,
     answer: usize,
     count: usize,
-) -> io::Result<usize> {
+) -> io::Result<usize>
+    ensures { OnErr result (out.new ≡ out.old) }
+{
     let start = room(writer, out, at)?;
     let a = put_number(out, start, number);
     let b = put(out, a, b' ');
