@@ -3,6 +3,7 @@ use mathlib.Core.Path.{◌≡◌, sym, ap, ◌∙◌}
 use mathlib.Core.Bool.{Bool, true, cond, not, and-eq-true_iff}
 use mathlib.Core.List.{List, [], ◌∷◌, map}
 use Prim.Native.Nat.{ℕ, zero, suc, ◌+◌, ◌-◌, ◌≤◌, ◌<◌}
+use Rattle.std.proofs.Common.{Option}
 use native.Mathlib.Nat.{add-sub_cancel, sub-zero}
 use native.Mathlib.Omega.{arith}
 use lib.Dec.{eqb, ltb}
@@ -32,7 +33,6 @@ use Rattle.book.specs.declared.Book.{Book}
 use Rattle.book.specs.Books.{view_book}
 use Rattle.book.specs.Counts.{view_from}
 use Rattle.packed.specs.Held.{held_in, held_grown}
-use Rattle.packed.proofs.Held.{held_grown_law, held_full}
 
 -- two maps that agree, element by element
 same_at : {A B C : Type 0} (f : A → C) (g : B → C) (k : List A) (l : List B) → map f k ≡ map g l
@@ -83,7 +83,7 @@ positions_all : (b : Book) (m : ℕ) → length b.occurrences ≡ 31 → b.posit
 unfolding view_book wide_book
 positions_all b m l h = ap (numbers 1) (sub-zero b.positions ∙ sym (length-take-le b.positions b.occurrences (omega arith)))
 
-module _ (b : Book) (m : ℕ) (cs : List Constraint) (held at : List ℕ) (n : ℕ) where
+module _ (b : Book) (m : ℕ) (cs : List (Option Constraint)) (held at : List ℕ) (n : ℕ) where
   -- the constraints are those of the event
   abbrev Told : Events.Event → Type 0
   Told e = map view_constraint (take b.symbols cs) ≡ map (λ s. Events.constraint_of s e) (view_book b).symbols
@@ -102,10 +102,9 @@ module _ (b : Book) (m : ℕ) (cs : List Constraint) (held at : List ℕ) (n : �
     pub few : total ≤ 128
     pub whole : (e : Events.Event) → Told e → ahead e i (grown (held_in total positions words)) ≡ result e
 
-  -- what a turn gives: one more label held, or no room for it
-  pub record Turned (i r : ℕ) (positions words : List ℕ) : Type 0 where
-    pub more : r ≤ 128 → Advancing (i + 1) r positions words
-    pub over : 128 < r → (at' w' : List ℕ) (e : Events.Event) → Told e → held_grown 129 at' w' ≡ result e
+  -- once there is no room there is none for good
+  pub ahead_full : (e : Events.Event) (i : ℕ) → ahead e i full ≡ full
+  ahead_full e i = advanced_full (wide_book (view_from m b)) (held_in n at held) e (numbers (i + 1) (b.positions - i))
 
   pub ascending_at : (q : ℕ) → sound_held (wide_book (view_from m b)) (held_in n at held) ≡ true
       → ascending compare_disjuncts (pick (eqb q) (take n at) (take n (disjuncts_in held))) ≡ true
@@ -124,14 +123,13 @@ module _ (b : Book) (m : ℕ) (cs : List Constraint) (held at : List ℕ) (n : �
       }
 
   pub advancing_done : (i total : ℕ) (positions words : List ℕ) → b.positions ≤ i → Advancing i total positions words
-      → (e : Events.Event) → Told e → held_grown total positions words ≡ result e
+      → (e : Events.Event) → Told e → grown (held_in total positions words) ≡ result e
   advancing_done i total positions words h g e t =
       let none : b.positions - i ≡ 0 = omega arith in
-      held_grown_law total positions words g.few
-      ∙ sym (ap (λ k. advanced (wide_book (view_from m b)) (held_in n at held) e (numbers (i + 1) k) (grown (held_in total positions words))) none) ∙ g.whole e t
+      sym (ap (λ k. advanced (wide_book (view_from m b)) (held_in n at held) e (numbers (i + 1) k) (grown (held_in total positions words))) none) ∙ g.whole e t
 
   -- one turn: the new label of position i + 1 behind what is held so far
-  module _ (i total r : ℕ) (positions words positions' words' masks : List ℕ) (begins : Bool) (h : i < b.positions) (long : length b.occurrences ≡ 31)
+  module _ (i total : ℕ) (r : Option ℕ) (positions words positions' words' masks : List ℕ) (begins : Bool) (h : i < b.positions) (long : length b.occurrences ≡ 31)
       (few : b.positions ≤ 31) (sound : Plain.sound_book (view_from m b) ≡ true) (followed : take n masks ≡ map (Plain.followers (view_book b)) (take n at))
       (first : begins ≡ bit (i + 1) m) (g : Advancing i total positions words)
       (put : held_grown r positions' words' ≡ appended (i + 1) (held_in total positions words)
@@ -158,18 +156,10 @@ module _ (b : Book) (m : ℕ) (cs : List Constraint) (held at : List ℕ) (n : �
         rw (constraint_at_law e t, t, begins_at_law, ← followers_at b m i h long few, followed)
         (labelled_at (view_from m b) (take n at) (take n (disjuncts_in held)) e (i + 1))
 
-    turned : (e : Events.Event) → Told e → ahead e (i + 1) (held_grown r positions' words') ≡ result e
+    -- with the labels ahead of it, what is held then is what the event makes
+    pub turned : (e : Events.Event) → Told e → ahead e (i + 1) (held_grown r positions' words') ≡ result e
     turned e t =
         let B = wide_book (view_from m b) in
         let H = held_in n at held in
         ap (ahead e (i + 1)) (put ∙ ap (appended (i + 1) (held_in total positions words)) (label_at_law e t))
         ∙ sym (ap (λ k. advanced B H e k (grown (held_in total positions words))) (numbers_next i b.positions h)) ∙ g.whole e t
-
-    pub one_turn : Turned i r positions' words'
-    one_turn =
-        record {
-          more = λ k. record { few = k; whole = λ e t. ap (ahead e (i + 1)) (sym (held_grown_law r positions' words' k)) ∙ turned e t };
-          over = λ k at' w' e t. held_full 129 at' w' (omega arith)
-              ∙ sym (advanced_full (wide_book (view_from m b)) (held_in n at held) e (numbers (i + 1 + 1) (b.positions - (i + 1))))
-              ∙ ap (ahead e (i + 1)) (sym (held_full r positions' words' k)) ∙ turned e t;
-        }

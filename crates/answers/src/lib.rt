@@ -26,11 +26,11 @@ pub fn place_of(a: EventAnswer) -> usize
     ensures { result ≡ place_of a }
 {
     match a {
-        EventAnswer::Accepted => 0,
-        EventAnswer::Unsound => 0,
-        EventAnswer::OutOfForm => 0,
-        EventAnswer::TooMany => 0,
-        EventAnswer::NoRoom => 0,
-        EventAnswer::NoSpace => 0,
+        EventAnswer::Accepted
+        | EventAnswer::Unsound
+        | EventAnswer::OutOfForm
+        | EventAnswer::TooMany
+        | EventAnswer::NoRoom
+        | EventAnswer::NoSpace => 0,
     }
 }

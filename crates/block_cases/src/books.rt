@@ -1,5 +1,4 @@
-// The words of the book `vars d s`, open 5 d, fill 1 d s, close 6 d, reset 8 _, `match open fill close`, and damage to them. Damage of kind 0 leaves
-// them, 1 to 26 take them out of what document 01 calls sound, 27 to 29 leave them sound.
+// The words of the book `vars d s`, open 5 d, fill 1 d s, close 6 d, reset 8 _, `match open fill close`, and damage to them.
 ghost use Rattle.std.specs.Prelude.{◌≤◌};
 
 use crate::layout;
@@ -9,103 +8,103 @@ use crate::layout::{
 use corrupted::amounts;
 use corrupted::sizes::TEXT_BYTES;
 
-// A word ends at position 1, where `s` is free; each symbol has a fixed number as one parameter more; a name ends where the longest text does.
-pub const ENDED: u32 = 27;
-
-pub const FIXED: u32 = 28;
-
-pub const KINDS: u64 = 29;
-
 const LONGEST: u32 = TEXT_BYTES as u32;
 
-pub fn is_unsound(kind: u32) -> bool {
-    0 < kind && kind < ENDED
+// How the words of a book are damaged: another layout; a count out of its range, or less than the parameters, the pattern or the sets need; a set
+// with position 0 or one beyond the three; a symbol that is not declared; the empty word; a symbol out of its range; a name beyond the longest text.
+// The last three leave the book sound: a word ends at position 1, where `s` is free; each symbol has a fixed number as one parameter more; a name
+// ends where the longest text does.
+#[derive(Clone, Copy, PartialEq, Eq)]
+pub enum Damage {
+    LayoutZero,
+    LayoutOfState,
+    LayoutNext,
+    LayoutOther,
+    ManyVariables,
+    FewVariables,
+    NoSymbols,
+    ManySymbols,
+    FewSymbols,
+    NoPositions,
+    ManyPositions,
+    FewPositions,
+    PositionZero,
+    PositionBeyond,
+    SymbolBeyond,
+    EmptyOne,
+    EmptyTwo,
+    EmptyBeyond,
+    KindZero,
+    KindBeyond,
+    ManyParameters,
+    TagBeyond,
+    VariableBeyond,
+    NameStartsBeyond,
+    NameEndsJustBeyond,
+    NameTooLong,
+    Ended,
+    Fixed,
+    NameToTheEnd,
 }
 
-// The name's start in the text, and its size.
-fn put_name(words: &mut [u32], i: usize, start: u32, size: u32) {
-    cells::put(words, NAMES + i % 20 * 2, start);
-    cells::put(words, NAMES + i % 20 * 2 + 1, size);
+impl Damage {
+    pub const ALL: [Damage; 29] = [
+        Damage::LayoutZero,
+        Damage::LayoutOfState,
+        Damage::LayoutNext,
+        Damage::LayoutOther,
+        Damage::ManyVariables,
+        Damage::FewVariables,
+        Damage::NoSymbols,
+        Damage::ManySymbols,
+        Damage::FewSymbols,
+        Damage::NoPositions,
+        Damage::ManyPositions,
+        Damage::FewPositions,
+        Damage::PositionZero,
+        Damage::PositionBeyond,
+        Damage::SymbolBeyond,
+        Damage::EmptyOne,
+        Damage::EmptyTwo,
+        Damage::EmptyBeyond,
+        Damage::KindZero,
+        Damage::KindBeyond,
+        Damage::ManyParameters,
+        Damage::TagBeyond,
+        Damage::VariableBeyond,
+        Damage::NameStartsBeyond,
+        Damage::NameEndsJustBeyond,
+        Damage::NameTooLong,
+        Damage::Ended,
+        Damage::Fixed,
+        Damage::NameToTheEnd,
+    ];
+
+    pub fn is_unsound(self) -> bool {
+        !matches!(self, Damage::Ended | Damage::Fixed | Damage::NameToTheEnd)
+    }
 }
 
-fn put_symbol(words: &mut [u32], i: usize, kind: u32, count: u32) {
-    cells::put(words, layout::symbol(i), kind);
-    cells::put(words, layout::symbol(i) + 1, count);
-}
-
-// A parameter: tag 0 is ignored, 1 a variable, 2 a fixed number.
-fn put_parameter(words: &mut [u32], i: usize, j: usize, tag: u32, number: u32) {
-    cells::put(words, layout::symbol(i) + 2 + j % 4 * 2, tag);
-    cells::put(words, layout::symbol(i) + 3 + j % 4 * 2, number);
-}
-
-// The position's symbol, and the set of those that follow it.
-fn put_position(words: &mut [u32], p: usize, symbol: u32, follows: u32) {
-    cells::put(words, OCCURRENCES + p % 31, symbol);
-    cells::put(words, FOLLOWS + p % 31, follows);
-}
-
-fn put_head(words: &mut [u32]) {
-    cells::put(words, 0, BOOK);
-    cells::put(words, VARIABLES, 2);
-    cells::put(words, SYMBOLS, 4);
-    cells::put(words, POSITIONS, 3);
-    cells::put(words, BEGINS, 2);
-    cells::put(words, ENDS, 8);
-    cells::put(words, EMPTY, 0);
-}
-
-fn put_names(words: &mut [u32]) {
-    put_name(words, 0, 5, 1);
-    put_name(words, 1, 7, 1);
-    put_name(words, 2, 13, 4);
-    put_name(words, 3, 26, 4);
-    put_name(words, 4, 41, 5);
-    put_name(words, 5, 55, 5);
-}
-
-fn put_symbols(words: &mut [u32]) {
-    put_symbol(words, 0, 5, 1);
-    put_parameter(words, 0, 0, 1, 0);
-    put_symbol(words, 1, 1, 2);
-    put_parameter(words, 1, 0, 1, 0);
-    put_parameter(words, 1, 1, 1, 1);
-    put_symbol(words, 2, 6, 1);
-    put_parameter(words, 2, 0, 1, 0);
-    put_reset(words);
-}
-
-// The number of an ignored parameter is not judged.
-fn put_reset(words: &mut [u32]) {
-    put_symbol(words, 3, 8, 1);
-    cells::put(words, layout::symbol(3) + 2, 0);
-}
-
-// The words that are judged, over whatever else there is: not those that no count reaches.
+// The words that are judged, over whatever else there is: not those that no count reaches, and not the number of an ignored parameter. A symbol is its
+// kind, the count of its parameters, and for each a tag (0 is ignored, 1 a variable, 2 a fixed number) and a number.
 pub fn put_book(words: &mut [u32]) {
-    put_head(words);
-    put_names(words);
-    put_symbols(words);
-    put_position(words, 0, 0, 4);
-    put_position(words, 1, 1, 8);
-    put_position(words, 2, 2, 0);
+    layout::put(words, 0, &[BOOK, 2, 4, 3, 2, 8, 0]);
+    layout::put(words, NAMES, &[5, 1, 7, 1, 13, 4, 26, 4, 41, 5, 55, 5]);
+    layout::put(words, layout::symbol(0), &[5, 1, 1, 0]);
+    layout::put(words, layout::symbol(1), &[1, 2, 1, 0, 1, 1]);
+    layout::put(words, layout::symbol(2), &[6, 1, 1, 0]);
+    layout::put(words, layout::symbol(3), &[8, 1, 0]);
+    layout::put(words, OCCURRENCES, &[0, 1, 2]);
+    layout::put(words, FOLLOWS, &[4, 8, 0]);
 }
 
 // Each symbol with a fixed number more.
 fn put_fixed(words: &mut [u32], number: u32) {
-    put_symbol(words, 0, 5, 2);
-    put_parameter(words, 0, 1, 2, number);
-    put_symbol(words, 1, 1, 3);
-    put_parameter(words, 1, 2, 2, number);
-    put_symbol(words, 2, 6, 2);
-    put_parameter(words, 2, 1, 2, number);
-    put_symbol(words, 3, 8, 2);
-    put_parameter(words, 3, 1, 2, number);
-}
-
-// One of some words.
-fn one_of(places: [usize; 5], y: u64) -> usize {
-    places[(y % 5) as usize]
+    layout::put(words, layout::symbol(0), &[5, 2, 1, 0, 2, number]);
+    layout::put(words, layout::symbol(1), &[1, 3, 1, 0, 1, 1, 2, number]);
+    layout::put(words, layout::symbol(2), &[6, 2, 1, 0, 2, number]);
+    layout::put(words, layout::symbol(3), &[8, 2, 0]);
+    layout::put(words, layout::symbol(3) + 4, &[2, number]);
 }
 
 // Where one of the six names starts.
@@ -116,85 +115,64 @@ fn named(y: u64) -> usize
 }
 
 // The word that is damaged.
-fn place(kind: u32, y: u64) -> usize {
-    let some = (y % 3) as usize;
+fn place(damage: Damage, y: u64) -> usize {
     let declared = layout::symbol((y % 4) as usize);
-    let sets = [BEGINS, ENDS, FOLLOWS, FOLLOWS + 1, FOLLOWS + 2];
-    let tags = [49, 59, 61, 69, 79];
-    let numbers = [50, 60, 62, 70, 60];
-    match kind {
-        1..=4 => 0,
-        5..=6 => VARIABLES,
-        7..=9 => SYMBOLS,
-        10..=12 => POSITIONS,
-        13..=14 => one_of(sets, y),
-        15 => OCCURRENCES + some,
-        16..=18 => EMPTY,
-        19..=20 => declared,
-        21 => declared + 1,
-        22 => one_of(tags, y),
-        23 => one_of(numbers, y),
-        24 => named(y),
-        25..=26 => named(y) + 1,
-        ENDED => ENDS,
-        _ => named(y) + 1,
+    match damage {
+        Damage::LayoutZero | Damage::LayoutOfState | Damage::LayoutNext | Damage::LayoutOther => 0,
+        Damage::ManyVariables | Damage::FewVariables => VARIABLES,
+        Damage::NoSymbols | Damage::ManySymbols | Damage::FewSymbols => SYMBOLS,
+        Damage::NoPositions | Damage::ManyPositions | Damage::FewPositions => POSITIONS,
+        Damage::PositionZero | Damage::PositionBeyond => {
+            [BEGINS, ENDS, FOLLOWS, FOLLOWS + 1, FOLLOWS + 2][(y % 5) as usize]
+        }
+        Damage::SymbolBeyond => OCCURRENCES + (y % 3) as usize,
+        Damage::EmptyOne | Damage::EmptyTwo | Damage::EmptyBeyond => EMPTY,
+        Damage::KindZero | Damage::KindBeyond => declared,
+        Damage::ManyParameters => declared + 1,
+        Damage::TagBeyond => [49, 59, 61, 69, 79][(y % 5) as usize],
+        Damage::VariableBeyond => [50, 60, 62, 70, 60][(y % 5) as usize],
+        Damage::NameStartsBeyond => named(y),
+        Damage::NameEndsJustBeyond | Damage::NameTooLong | Damage::NameToTheEnd => named(y) + 1,
+        Damage::Ended | Damage::Fixed => ENDS,
     }
 }
 
-// Another layout, or a count out of its range: too many, none, or fewer than the parameters, the pattern or the sets need.
-fn miscounted(kind: u32, x: u64, few: u32) -> u32 {
-    match kind {
-        1 => 0,
-        2 => STATE,
-        3 => BOOK + 1,
-        4 => layout::other(amounts::short(x), BOOK),
-        5 => amounts::above_short(5, x),
-        6 => few % 2,
-        7 => 0,
-        8 => amounts::above_short(17, x),
-        9 => 1 + few % 2,
-        10 => 0,
-        11 => amounts::above_short(32, x),
-        _ => 1 + few % 2,
+// What it holds then, from what stood there and where the name starts.
+fn value(damage: Damage, x: u64, y: u64, old: u32, start: u32) -> u32 {
+    match damage {
+        Damage::LayoutZero | Damage::NoSymbols | Damage::NoPositions | Damage::KindZero => 0,
+        Damage::LayoutOfState => STATE,
+        Damage::LayoutNext => BOOK + 1,
+        Damage::LayoutOther => layout::other(amounts::short(x), BOOK),
+        Damage::FewVariables => (y % 2) as u32,
+        Damage::FewSymbols | Damage::FewPositions => 1 + (y % 2) as u32,
+        Damage::ManySymbols => amounts::above_short(17, x),
+        Damage::ManyPositions => amounts::above_short(32, x),
+        Damage::PositionZero => old | 1,
+        Damage::PositionBeyond => old | 1 << (4 + y % 28),
+        Damage::SymbolBeyond => amounts::above_short(4, x),
+        Damage::EmptyOne => 1,
+        Damage::EmptyTwo | Damage::Ended | Damage::Fixed => 2,
+        Damage::EmptyBeyond | Damage::TagBeyond => amounts::above_short(3, x),
+        Damage::KindBeyond => amounts::above_short(256, x),
+        Damage::ManyVariables | Damage::ManyParameters => amounts::above_short(5, x),
+        Damage::VariableBeyond => amounts::above_short(2, x),
+        Damage::NameStartsBeyond | Damage::NameTooLong => amounts::above_short(LONGEST + 1, x),
+        Damage::NameEndsJustBeyond => LONGEST + 1 - start % LONGEST,
+        Damage::NameToTheEnd => LONGEST - start % LONGEST,
     }
 }
 
-// Another number out of its range, from what stood there and in the word before. A name ends one byte beyond the longest text, or with it.
-fn misstated(kind: u32, x: u64, y: u64, old: u32, start: u32) -> u32 {
-    match kind {
-        13 => old | 1,
-        14 => old | 1 << (4 + y % 28),
-        15 => amounts::above_short(4, x),
-        16 => 1,
-        17 => 2,
-        18 => amounts::above_short(3, x),
-        19 => 0,
-        20 => amounts::above_short(256, x),
-        21 => amounts::above_short(5, x),
-        22 => amounts::above_short(3, x),
-        23 => amounts::above_short(2, x),
-        24 => amounts::above_short(LONGEST + 1, x),
-        25 => LONGEST + 1 - start % LONGEST,
-        26 => amounts::above_short(LONGEST + 1, x),
-        ENDED => 2,
-        _ => LONGEST - start % LONGEST,
-    }
-}
-
-pub fn damage(words: &mut [u32], kind: u32, x: u64, y: u64) {
-    if kind == 0 {
+// The words with the damage, if there is any; x says how much, y where.
+pub fn put_damaged(words: &mut [u32], damage: Option<Damage>, x: u64, y: u64) {
+    let Some(damage) = damage else {
         return;
+    };
+    if damage == Damage::Fixed {
+        return put_fixed(words, amounts::short(x));
     }
-    if kind == FIXED {
-        put_fixed(words, amounts::short(x));
-        return;
-    }
-    let at = place(kind, y);
-    if kind < 13 {
-        cells::put(words, at, miscounted(kind, x, amounts::short(y / 8)));
-        return;
-    }
-    let old = cells::get(words, at);
-    let start = cells::get(words, named(y));
-    cells::put(words, at, misstated(kind, x, y / 8, old, start));
+    let at = place(damage, y);
+    let old = words.get(at).copied().unwrap_or(0);
+    let start = words.get(named(y)).copied().unwrap_or(0);
+    layout::put(words, at, &[value(damage, x, y / 8, old, start)]);
 }

@@ -1,5 +1,4 @@
-// The blocks of words as they are described: where each part of a book and of a state begins, and how long it is. For `books` and `states`, and for the
-// comparison of whole blocks.
+// The blocks of words as they are described: where each part of a book and of a state begins, and how long it is. For `books` and `states`.
 ghost use Rattle.std.specs.Prelude.{◌≤◌};
 
 use corrupted::amounts;
@@ -49,6 +48,9 @@ pub const GROUP_WORDS: usize = 28;
 
 pub const STATE_WORDS: usize = 3715;
 
+// The code of a variable with a value; any other is the count of those that a free one excludes.
+pub const VALUE: u32 = 7;
+
 // Where the words of a symbol and of a disjunct begin.
 pub fn symbol(i: usize) -> usize
     ensures { result ≤ 4096 }
@@ -67,40 +69,28 @@ pub fn other(x: u32, layout: u32) -> u32 {
     if x == layout { 7 } else { x }
 }
 
-// What word i is filled with: zero, or numbers that differ from word to word.
-fn spare(x: u64, i: usize) -> u32 {
-    if x == 0 {
-        return 0;
-    }
-    amounts::short(x % 4294967296 + i as u64 % 4096 * 65537)
-}
-
-// All words filled.
+// All words filled: with zeros, or with numbers that differ from word to word.
 pub fn fill(words: &mut [u32], x: u64) {
-    let mut i: usize = 0;
-    while i < words.len() {
-        words[i] = spare(x, i);
-        i += 1;
+    for (i, word) in words.iter_mut().enumerate() {
+        *word = match x {
+            0 => 0,
+            _ => amounts::short(x % 4294967296 + i as u64 % 4096 * 65537),
+        };
     }
 }
 
-// So many words cleared.
+// Some words written from a place on, as far as there is room.
+pub fn put(words: &mut [u32], from: usize, xs: &[u32]) {
+    if let Some(room) = words.get_mut(from..) {
+        for (word, x) in room.iter_mut().zip(xs) {
+            *word = *x;
+        }
+    }
+}
+
+// So many words cleared from a place on.
 pub fn clear(words: &mut [u32], from: usize, count: usize) {
-    let n = count % 4096;
-    let mut i: usize = 0;
-    while i < n {
-        cells::put(words, from % 4096 + i, 0);
-        i += 1;
+    for word in words.iter_mut().skip(from).take(count) {
+        *word = 0;
     }
-}
-
-// Whether two blocks have the same words.
-pub fn same(a: &[u32], b: &[u32]) -> bool {
-    let mut r = a.len() == b.len();
-    let mut i: usize = 0;
-    while i < a.len() {
-        r = r & (a[i] == cells::get(b, i));
-        i += 1;
-    }
-    r
 }

@@ -1,6 +1,8 @@
 -- "For an answer that is an enum, a definition gives this paper's number and values for each case of the enum."
 use Rattle.std.specs.Prelude.{cond, ℕ, eqb}
 use Rattle.form.specs.Limits.{text_limit}
+use Rattle.text.specs.declared.Refusal.{Refusal}
+use Rattle.text.specs.declared.Refusal.TheVariants as Why
 use Rattle.book.specs.declared.ReadingAnswer.{ReadingAnswer}
 use Rattle.book.specs.declared.ReadingAnswer.TheVariants.{Accepted, TooLong, BadLine, AboveLimit, Redeclared}
 use Rattle.book.specs.declared.ReadingAnswer.TheVariants.{Undeclared, BadPattern, EmptyWord, Unbound}
@@ -41,3 +43,13 @@ answer_of n p =
     (cond (eqb n 6) (BadPattern p)
     (cond (eqb n 7) (EmptyWord p)
     (Unbound p))))))))
+
+-- the answer that says why a text is refused
+abbrev pub answer_for : Refusal → ReadingAnswer
+answer_for (Why.BadLine p) = BadLine p
+answer_for (Why.AboveLimit p) = AboveLimit p
+answer_for (Why.Redeclared p) = Redeclared p
+answer_for (Why.Undeclared p) = Undeclared p
+answer_for (Why.BadPattern p) = BadPattern p
+answer_for (Why.EmptyWord p) = EmptyWord p
+answer_for (Why.Unbound p) = Unbound p

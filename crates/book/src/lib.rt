@@ -2,18 +2,19 @@
 #![tactic(auto)]
 
 ghost use Rattle.std.specs.Prelude.{◌≡◌};
-ghost use Rattle.book.specs.Answers.{answer_of, number_of, place_of};
+ghost use Rattle.book.specs.Answers.{answer_for, number_of, place_of};
 ghost use Rattle.book.specs.Books.{empty_book, book_with};
 
 use piece::Piece;
 use table::{Name, Symbol, Table};
+use text::Refusal;
 
 // "A book is ASCII text, at most 4,096 bytes."
 pub const TEXT_LIMIT: usize = 4096;
 
 // Counts, the declaring places of names, the symbol table, and the pattern as positions: index i of `occurrences` and `follows` is
 // position i + 1; sets of positions are kept one bit to a position.
-#[derive(Clone, Copy)]
+#[derive(Clone, Copy, PartialEq, Eq)]
 pub struct Book {
     pub variables: usize,
     pub symbols: usize,
@@ -28,7 +29,7 @@ pub struct Book {
 }
 
 // The answers 0 to 8 of document 01; a place is the first byte of the offending word or token.
-#[derive(Clone, Copy)]
+#[derive(Clone, Copy, PartialEq, Eq)]
 pub enum ReadingAnswer {
     Accepted,
     TooLong,
@@ -41,8 +42,24 @@ pub enum ReadingAnswer {
     Unbound(usize),
 }
 
+impl From<Refusal> for ReadingAnswer {
+    ghost from_gives = { λ e answer. answer ≡ answer_for e };
+
+    fn from(e: Refusal) -> ReadingAnswer {
+        match e {
+            Refusal::BadLine(p) => ReadingAnswer::BadLine(p),
+            Refusal::AboveLimit(p) => ReadingAnswer::AboveLimit(p),
+            Refusal::Redeclared(p) => ReadingAnswer::Redeclared(p),
+            Refusal::Undeclared(p) => ReadingAnswer::Undeclared(p),
+            Refusal::BadPattern(p) => ReadingAnswer::BadPattern(p),
+            Refusal::EmptyWord(p) => ReadingAnswer::EmptyWord(p),
+            Refusal::Unbound(p) => ReadingAnswer::Unbound(p),
+        }
+    }
+}
+
 // What a reading hands back: the answer, the book, and the counts of its beginning and ending positions.
-#[derive(Clone, Copy)]
+#[derive(Clone, Copy, PartialEq, Eq)]
 pub struct Reading {
     pub answer: ReadingAnswer,
     pub book: Book,
@@ -54,20 +71,27 @@ pub struct Reading {
 pub fn book_of(t: Table, x: Piece) -> Book
     ensures { result ≡ book_with t x }
 {
-    let names = t.names;
-    let table = t.symbols;
-    let occurrences = x.symbols;
-    let follows = x.follows;
+    let Table {
+        variables,
+        count,
+        names,
+        symbols,
+    } = t;
+    let Piece {
+        symbols: occurrences,
+        follows,
+        ..
+    } = x;
     Book {
-        variables: t.variables,
-        symbols: t.count,
-        names: names,
-        table: table,
+        variables,
+        symbols: count,
+        names,
+        table: symbols,
         positions: x.size,
-        occurrences: occurrences,
+        occurrences,
         begins: x.begins,
         ends: x.ends,
-        follows: follows,
+        follows,
         empty: x.empty,
     }
 }
@@ -76,37 +100,16 @@ pub fn book_of(t: Table, x: Piece) -> Book
 pub fn empty_book() -> Book
     ensures { result ≡ empty_book }
 {
-    let t = table::no_table();
-    let x = piece::nothing();
-    book_of(t, x)
-}
-
-// The answer with a number and a place.
-pub fn answer_of(fault: usize, place: usize) -> ReadingAnswer
-    ensures { result ≡ answer_of fault place }
-{
-    match fault {
-        0 => ReadingAnswer::Accepted,
-        1 => ReadingAnswer::TooLong,
-        2 => ReadingAnswer::BadLine(place),
-        3 => ReadingAnswer::AboveLimit(place),
-        4 => ReadingAnswer::Redeclared(place),
-        5 => ReadingAnswer::Undeclared(place),
-        6 => ReadingAnswer::BadPattern(place),
-        7 => ReadingAnswer::EmptyWord(place),
-        _ => ReadingAnswer::Unbound(place),
-    }
+    book_of(table::no_table(), piece::nothing())
 }
 
 // What a refused text gives.
-pub fn refused(fault: usize, place: usize) -> Reading
-    ensures { result ≡ record { answer = answer_of fault place; book = empty_book; begin_count = 0; end_count = 0 } }
+pub fn refused(answer: ReadingAnswer) -> Reading
+    ensures { result ≡ record { answer = answer; book = empty_book; begin_count = 0; end_count = 0 } }
 {
-    let answer = answer_of(fault, place);
-    let book = empty_book();
     Reading {
-        answer: answer,
-        book: book,
+        answer,
+        book: empty_book(),
         begin_count: 0,
         end_count: 0,
     }
@@ -136,12 +139,12 @@ pub fn place_of(a: ReadingAnswer) -> usize
     match a {
         ReadingAnswer::Accepted => 0,
         ReadingAnswer::TooLong => TEXT_LIMIT,
-        ReadingAnswer::BadLine(p) => p,
-        ReadingAnswer::AboveLimit(p) => p,
-        ReadingAnswer::Redeclared(p) => p,
-        ReadingAnswer::Undeclared(p) => p,
-        ReadingAnswer::BadPattern(p) => p,
-        ReadingAnswer::EmptyWord(p) => p,
-        ReadingAnswer::Unbound(p) => p,
+        ReadingAnswer::BadLine(p)
+        | ReadingAnswer::AboveLimit(p)
+        | ReadingAnswer::Redeclared(p)
+        | ReadingAnswer::Undeclared(p)
+        | ReadingAnswer::BadPattern(p)
+        | ReadingAnswer::EmptyWord(p)
+        | ReadingAnswer::Unbound(p) => p,
     }
 }

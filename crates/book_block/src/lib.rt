@@ -54,12 +54,8 @@ fn names_in(words: &[u32]) -> [Name; NAMES]
 {
     let none = Name { start: 0, size: 0 };
     let mut names = [none; NAMES];
-    let mut i: usize = 0;
-    while i < NAMES {
-        let at = NAME * i;
-        let end = at + NAME;
-        names[i] = name_in(&words[at..end]);
-        i += 1;
+    for i in 0..NAMES {
+        names[i] = name_in(&words[NAME * i..NAME * i + NAME]);
     }
     names
 }
@@ -80,12 +76,8 @@ fn parameters_in(words: &[u32]) -> [Parameter; PARAMETERS]
 {
     let none = Parameter { tag: 0, number: 0 };
     let mut parameters = [none; PARAMETERS];
-    let mut i: usize = 0;
-    while i < PARAMETERS {
-        let at = PARAMETER * i;
-        let end = at + PARAMETER;
-        parameters[i] = parameter_in(&words[at..end]);
-        i += 1;
+    for i in 0..PARAMETERS {
+        parameters[i] = parameter_in(&words[PARAMETER * i..PARAMETER * i + PARAMETER]);
     }
     parameters
 }
@@ -94,11 +86,10 @@ fn symbol_in(words: &[u32]) -> Symbol
     requires { symbol_size ≤ length words.now }
     ensures { result ≡ symbol_in words.now }
 {
-    let parameters = parameters_in(&words[2..]);
     Symbol {
         kind: words[0],
         count: words[1] as usize,
-        parameters: parameters,
+        parameters: parameters_in(&words[2..]),
     }
 }
 
@@ -108,12 +99,8 @@ fn table_in(words: &[u32]) -> [Symbol; SYMBOLS]
 {
     let none = table::no_symbol();
     let mut symbols = [none; SYMBOLS];
-    let mut i: usize = 0;
-    while i < SYMBOLS {
-        let at = SYMBOL * i;
-        let end = at + SYMBOL;
-        symbols[i] = symbol_in(&words[at..end]);
-        i += 1;
+    for i in 0..SYMBOLS {
+        symbols[i] = symbol_in(&words[SYMBOL * i..SYMBOL * i + SYMBOL]);
     }
     symbols
 }
@@ -123,8 +110,8 @@ fn numbers_in(words: &[u32]) -> [u32; POSITIONS]
     requires { occurrence_limit ≤ length words.now }
     ensures { result ≡ take occurrence_limit words.now }
 {
-    let mut numbers = [0u32; POSITIONS];
-    blocks::copy(&words[..POSITIONS], &mut numbers);
+    let mut numbers = [0; POSITIONS];
+    numbers.copy_from_slice(&words[..POSITIONS]);
     numbers
 }
 
@@ -133,20 +120,16 @@ fn held(words: &[u32]) -> Book
     requires { length words.now ≡ book_size }
     ensures { result ≡ book_held words.now }
 {
-    let names = names_in(&words[NAMES_FROM..]);
-    let table = table_in(&words[TABLE_FROM..]);
-    let occurrences = numbers_in(&words[OCCURRENCES_FROM..]);
-    let follows = numbers_in(&words[FOLLOWS_FROM..]);
     Book {
         variables: words[1] as usize,
         symbols: words[2] as usize,
-        names: names,
-        table: table,
+        names: names_in(&words[NAMES_FROM..]),
+        table: table_in(&words[TABLE_FROM..]),
         positions: words[3] as usize,
-        occurrences: occurrences,
+        occurrences: numbers_in(&words[OCCURRENCES_FROM..]),
         begins: words[4],
         ends: words[5],
-        follows: follows,
+        follows: numbers_in(&words[FOLLOWS_FROM..]),
         empty: words[6] != 0,
     }
 }
@@ -157,9 +140,10 @@ pub fn book_in(words: &[u32]) -> Book
     ensures { result ≡ book_in words.now }
 {
     if words[0] == LAYOUT {
-        return held(words);
+        held(words)
+    } else {
+        book::empty_book()
     }
-    book::empty_book()
 }
 
 fn put_name(words: &mut [u32], x: Name)
@@ -174,12 +158,8 @@ fn put_names(words: &mut [u32], names: [Name; NAMES])
     requires { (names_limit * name_size ≤ length words.old) × (all name_fits names ≡ true) }
     ensures { words.new ≡ front (gather name_words names) words.old }
 {
-    let mut i: usize = 0;
-    while i < NAMES {
-        let at = NAME * i;
-        let x = names[i];
-        put_name(&mut words[at..], x);
-        i += 1;
+    for i in 0..NAMES {
+        put_name(&mut words[NAME * i..], names[i]);
     }
 }
 
@@ -195,12 +175,8 @@ fn put_parameters(words: &mut [u32], parameters: [Parameter; PARAMETERS])
     requires { parameter_limit * parameter_size ≤ length words.old }
     ensures { words.new ≡ front (gather parameter_words parameters) words.old }
 {
-    let mut i: usize = 0;
-    while i < PARAMETERS {
-        let at = PARAMETER * i;
-        let p = parameters[i];
-        put_parameter(&mut words[at..], p);
-        i += 1;
+    for i in 0..PARAMETERS {
+        put_parameter(&mut words[PARAMETER * i..], parameters[i]);
     }
 }
 
@@ -208,22 +184,17 @@ fn put_symbol(words: &mut [u32], y: Symbol)
     requires { (symbol_size ≤ length words.old) × (symbol_fits y ≡ true) }
     ensures { words.new ≡ front (symbol_words y) words.old }
 {
-    let parameters = y.parameters;
     words[0] = y.kind;
     words[1] = y.count as u32;
-    put_parameters(&mut words[2..], parameters);
+    put_parameters(&mut words[2..], y.parameters);
 }
 
 fn put_table(words: &mut [u32], symbols: [Symbol; SYMBOLS])
     requires { (symbol_limit * symbol_size ≤ length words.old) × (all symbol_fits symbols ≡ true) }
     ensures { words.new ≡ front (gather symbol_words symbols) words.old }
 {
-    let mut i: usize = 0;
-    while i < SYMBOLS {
-        let at = SYMBOL * i;
-        let y = symbols[i];
-        put_symbol(&mut words[at..], y);
-        i += 1;
+    for i in 0..SYMBOLS {
+        put_symbol(&mut words[SYMBOL * i..], symbols[i]);
     }
 }
 
@@ -238,7 +209,7 @@ fn put_head(words: &mut [u32], b: Book)
     words[3] = b.positions as u32;
     words[4] = b.begins;
     words[5] = b.ends;
-    words[6] = if b.empty { 1 } else { 0 };
+    words[6] = b.empty as u32;
 }
 
 // A book over all words of a block.
@@ -246,13 +217,9 @@ pub fn put_book(words: &mut [u32], b: Book)
     requires { (length words.old ≡ book_size) × (book_fits b ≡ true) }
     ensures { words.new ≡ book_words b }
 {
-    let names = b.names;
-    let table = b.table;
-    let occurrences = b.occurrences;
-    let follows = b.follows;
     put_head(words, b);
-    put_names(&mut words[NAMES_FROM..], names);
-    put_table(&mut words[TABLE_FROM..], table);
-    blocks::copy(&occurrences, &mut words[OCCURRENCES_FROM..]);
-    blocks::copy(&follows, &mut words[FOLLOWS_FROM..]);
+    put_names(&mut words[NAMES_FROM..], b.names);
+    put_table(&mut words[TABLE_FROM..], b.table);
+    blocks::copy(&b.occurrences, &mut words[OCCURRENCES_FROM..]);
+    blocks::copy(&b.follows, &mut words[FOLLOWS_FROM..]);
 }

@@ -3,6 +3,7 @@
 use mathlib.Core.Path.{◌≡◌, refl, sym, ap, ap₂, ◌∙◌}
 use mathlib.Core.Bool.{Bool, true, cond, and-eq-true_iff}
 use mathlib.Core.List.{List, [], ◌∷◌, map}
+use Rattle.std.proofs.Common.{Option}
 use Prim.Native.Nat.{ℕ, zero, suc, ◌+◌, ◌-◌, ◌≤◌, ◌<◌}
 use native.Mathlib.Omega.{arith}
 use borrow.Author.Tests.{leb-true, ltb-true}
@@ -45,11 +46,11 @@ maps_at f g k l i a b e h =
 abbrev pub symbol_at : Book → ℕ → ℕ
 symbol_at b i = get_or b.occurrences i 0
 
-abbrev pub constraint_at : Book → List Constraint → ℕ → Constraint
+abbrev pub constraint_at : Book → List (Option Constraint) → ℕ → Option Constraint
 constraint_at b cs i = get_or cs (symbol_at b i) no_constraint
 
 -- the constraints are those of the book's symbols on the event
-abbrev pub Agree : Book → List Constraint → Events.Event → Type 0
+abbrev pub Agree : Book → List (Option Constraint) → Events.Event → Type 0
 Agree b cs e = map view_constraint (take b.symbols cs) ≡ map (λ s. Events.constraint_of s e) (view_book b).symbols
 
 -- the disjuncts of the sources of position q where it ends
@@ -110,7 +111,7 @@ module _ {b : Book} {m n : ℕ} {at masks : List ℕ} (k : Known b m n at masks)
       omega (arith, simp (length-map, length-take) at y)
 
   -- its constraint is that of the position's symbol
-  constraint_view : (cs : List Constraint) (e : Events.Event) → Agree b cs e → (i : ℕ) → i < b.positions
+  constraint_view : (cs : List (Option Constraint)) (e : Events.Event) → Agree b cs e → (i : ℕ) → i < b.positions
       → view_constraint (constraint_at b cs i) ≡ Events.constraint_of (symbol_of (view_from m b) (i + 1)) e
   constraint_view cs e a i h =
       let y = symbol_at b i in
@@ -129,7 +130,7 @@ module _ {b : Book} {m n : ℕ} {at masks : List ℕ} (k : Known b m n at masks)
 
   -- one turn of the loop, and the end
   module _ (held : List ℕ) (e : Events.Event) (i : ℕ) (y : Yield) where
-    pub yield_turn : (cs : List Constraint) → Agree b cs e → i < b.positions
+    pub yield_turn : (cs : List (Option Constraint)) → Agree b cs e → i < b.positions
         → yield_ahead b m n at held e i y
         ≡ yield_ahead b m n at held e (i + 1)
         (yield_with b.variables (view_constraint (constraint_at b cs i)) (sources_of b m n masks held (i + 1)) y)

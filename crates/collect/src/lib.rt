@@ -2,7 +2,7 @@
 // For `matcher`.
 #![tactic(auto)]
 
-ghost use Rattle.std.specs.Prelude.{◌≡◌, true, cond, ◌||◌, [], ◌∷◌, map, ℕ, ◌≤◌, ◌<◌, take, get_or};
+ghost use Rattle.std.specs.Prelude.{◌≡◌, true, cond, ◌||◌, [], ◌∷◌, map, ℕ, ◌≤◌, ◌<◌, take, get_or, Some, IfSome};
 ghost use Rattle.laws.specs.Bits.{bit};
 ghost use Rattle.laws.specs.Sets.{within, grow};
 ghost use Rattle.pattern.specs.Positions.{occurrence_limit};
@@ -27,12 +27,12 @@ use constraint::Constraints;
 use demand::Constraint;
 use disjunct::Disjunct;
 use packed::{CAPACITY, Words};
-use rows::{NO_ROOM, ROWS, Valuation};
+use rows::Valuation;
 
-// What is collected so far: how many rows stand in the lent words, or NO_ROOM; and whether a meeting left a variable free.
-#[derive(Clone, Copy)]
+// What is collected so far: how many rows stand in the lent words, or None where there was no room; and whether a meeting left a variable free.
+#[derive(Clone, Copy, PartialEq, Eq)]
 pub struct Collected {
-    pub rows: usize,
+    pub rows: Option<usize>,
     pub free: bool,
 }
 
@@ -42,15 +42,16 @@ fn either(a: bool, b: bool) -> bool
     a || b
 }
 
-// The row x put among the first m. Once there is no room there is none for good.
-fn insert_row(out: &mut rows::Words, m: usize, x: Valuation) -> usize
-    requires { rows_ascend (rows_grown m out.old) ≡ true }
-    ensures { rows_grown result out.new ≡ grow compare_valuations row_limit x (rows_grown m out.old) }
+// The row x put among those before. Once there is no room there is none for good.
+fn insert_row(out: &mut rows::Words, before: Option<usize>, x: Valuation) -> Option<usize>
+    requires { IfSome before (λ m. m ≤ row_limit) × (rows_ascend (rows_grown before out.old) ≡ true) }
+    ensures few { IfSome result (λ m. m ≤ row_limit) }
+    ensures set { rows_grown result out.new ≡ grow compare_valuations row_limit x (rows_grown before out.old) }
 {
-    if ROWS < m {
-        return NO_ROOM;
+    match before {
+        Some(m) => rows::insert_row(out, m, x),
+        None => None,
     }
-    rows::insert_row(out, m, x)
 }
 
 // The meeting of d with c, where the first v variables count.
@@ -61,20 +62,19 @@ fn add_met(
     c: Constraint,
     v: usize,
 ) -> Collected
-    requires { (v ≤ variable_limit) × Ready c × (rows_ascend (rows_grown found.rows out.old) ≡ true) }
-    ensures { yield_in result out.new ≡ yield_with v (view_constraint c) (view_disjunct d ∷ []) (yield_in found out.old) }
+    requires { (v ≤ variable_limit) × Ready c × IfSome found.rows (λ m. m ≤ row_limit)
+        × (rows_ascend (rows_grown found.rows out.old) ≡ true) }
+    ensures few { IfSome result.rows (λ m. m ≤ row_limit) }
+    ensures gives { yield_in result out.new ≡ yield_with v (view_constraint (Some c)) (view_disjunct d ∷ []) (yield_in found out.old) }
 {
-    let x = d.meet(c);
-    if x.ok {
-        let e = x.disjunct;
-        let free = either(found.free, e.leaves_free(v));
-        let n = insert_row(out, found.rows, e.values());
-        return Collected {
-            rows: n,
-            free: free,
-        };
+    match d.meet(Some(c)) {
+        Some(e) => {
+            let free = either(found.free, e.leaves_free(v));
+            let rows = insert_row(out, found.rows, e.values());
+            Collected { rows, free }
+        }
+        None => found,
     }
-    found
 }
 
 // The same for the start's label, if the position begins.
@@ -85,13 +85,16 @@ fn add_start(
     c: Constraint,
     v: usize,
 ) -> Collected
-    requires { (v ≤ variable_limit) × Ready c × (rows_ascend (rows_grown found.rows out.old) ≡ true) }
-    ensures { yield_in result out.new ≡ yield_with v (view_constraint c) (with_start begins []) (yield_in found out.old) }
+    requires { (v ≤ variable_limit) × Ready c × IfSome found.rows (λ m. m ≤ row_limit)
+        × (rows_ascend (rows_grown found.rows out.old) ≡ true) }
+    ensures few { IfSome result.rows (λ m. m ≤ row_limit) }
+    ensures gives { yield_in result out.new ≡ yield_with v (view_constraint (Some c)) (with_start begins []) (yield_in found out.old) }
 {
     if begins {
-        return add_met(out, found, Disjunct::free(), c, v);
+        add_met(out, found, Disjunct::free(), c, v)
+    } else {
+        found
     }
-    found
 }
 
 // The same for the held disjuncts whose mask has q.
@@ -106,18 +109,16 @@ fn add_sources(
     found: Collected,
 ) -> Collected
     requires { (n ≤ held_limit) × (q ≤ occurrence_limit) × (v ≤ variable_limit) × Ready c
-        × (rows_ascend (rows_grown found.rows out.old) ≡ true) }
-    ensures { yield_in result out.new ≡ yield_with v (view_constraint c)
+        × IfSome found.rows (λ m. m ≤ row_limit) × (rows_ascend (rows_grown found.rows out.old) ≡ true) }
+    ensures few { IfSome result.rows (λ m. m ≤ row_limit) }
+    ensures gives { yield_in result out.new ≡ yield_with v (view_constraint (Some c))
         (pick (λ x. bit q x) (take n masks.now) (take n (disjuncts_in held.now))) (yield_in found out.old) }
 {
     let mut r = found;
-    let mut i: usize = 0;
-    while i < n {
-        if step::has(masks[i], q) {
-            let d = packed::get(held, i);
-            r = add_met(out, r, d, c, v);
+    for i in 0..n {
+        if piece::has(masks[i], q) {
+            r = add_met(out, r, packed::get(held, i), c, v);
         }
-        i += 1;
     }
     r
 }
@@ -130,25 +131,29 @@ fn add_position(
     q: usize,
     begins: u32,
     ends: u32,
-    c: Constraint,
+    c: Option<Constraint>,
     v: usize,
     out: &mut rows::Words,
     found: Collected,
 ) -> Collected
-    requires { (n ≤ held_limit) × (q ≤ occurrence_limit) × (v ≤ variable_limit) × Ready c
-        × (rows_ascend (rows_grown found.rows out.old) ≡ true) }
-    ensures { yield_in result out.new ≡ yield_with v (view_constraint c)
+    requires { (n ≤ held_limit) × (q ≤ occurrence_limit) × (v ≤ variable_limit) × IfSome c Ready
+        × IfSome found.rows (λ m. m ≤ row_limit) × (rows_ascend (rows_grown found.rows out.old) ≡ true) }
+    ensures few { IfSome result.rows (λ m. m ≤ row_limit) }
+    ensures gives { yield_in result out.new ≡ yield_with v (view_constraint c)
         (cond (bit q ends) (with_start (bit q begins) (pick (λ x. bit q x) (take n masks.now) (take n (disjuncts_in held.now)))) [])
         (yield_in found out.old) }
 {
-    if c.ok && step::has(ends, q) {
-        let started = add_start(out, found, step::has(begins, q), c, v);
-        return add_sources(held, masks, n, q, c, v, out, started);
+    let Some(constraint) = c else {
+        return found;
+    };
+    if !piece::has(ends, q) {
+        return found;
     }
-    found
+    let started = add_start(out, found, piece::has(begins, q), constraint, v);
+    add_sources(held, masks, n, q, constraint, v, out, started)
 }
 
-// The rows of an event whose matches begin at the positions of `begins`, from the constraints of the book's symbols: how many, or NO_ROOM; and
+// The rows of an event whose matches begin at the positions of `begins`, from the constraints of the book's symbols: how many, or None where there is no room; and
 // "a row that would leave a variable free", disjunct by disjunct.
 pub fn collect(
     book: Book,
@@ -161,21 +166,19 @@ pub fn collect(
     out: &mut rows::Words,
 ) -> Collected
     requires { (n ≤ held_limit) × Counts book × (sound_book (starting_at begins (view_book book)) ≡ true)
-        × (take n masks.now ≡ map (followers (view_book book)) (take n at.now)) × ((i : ℕ) → i < book.symbols → Ready (get_or cs i no_constraint)) }
-    ensures { (e : Event) → map view_constraint (take book.symbols cs) ≡ map (λ s. constraint_of s e) (view_book book).symbols
+        × (take n masks.now ≡ map (followers (view_book book)) (take n at.now)) × ((i : ℕ) → i < book.symbols → IfSome (get_or cs i no_constraint) Ready) }
+    ensures few { IfSome result.rows (λ m. m ≤ row_limit) }
+    ensures found { (e : Event) → map view_constraint (take book.symbols cs) ≡ map (λ s. constraint_of s e) (view_book book).symbols
         → (rows_grown result.rows out.new
         ≡ within row_limit (rows (wide_book (starting_at begins (view_book book))) (held_in n at.now held.now) e))
         × (result.free ≡ free_rows book.variables (wide_book (starting_at begins (view_book book))) (held_in n at.now held.now) e) }
 {
-    let positions = book.positions;
     let mut r = Collected {
-        rows: 0,
+        rows: Some(0),
         free: false,
     };
-    let mut i: usize = 0;
-    while i < positions {
+    for i in 0..book.positions {
         let y = book.occurrences[i] as usize;
-        let c = cs[y];
         r = add_position(
             held,
             masks,
@@ -183,12 +186,11 @@ pub fn collect(
             i + 1,
             begins,
             book.ends,
-            c,
+            cs[y],
             book.variables,
             out,
             r,
         );
-        i += 1;
     }
     r
 }

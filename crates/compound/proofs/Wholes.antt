@@ -86,6 +86,6 @@ module _ (vars : ℕ → ℕ) (a : Regex) (k : ℕ) where
   optional_whole = refl
 
   -- one or more, or none
-  pub star_whole : optional_of (plus_of (piece_of vars a k)) ≡ piece_of vars (star a) k
-  unfolding optional_of piece_of symbol_or0
-  star_whole = ap optional_of plus_whole
+  pub star_whole : piece_of vars (opt (plus a)) k ≡ piece_of vars (star a) k
+  unfolding piece_of symbol_or0
+  star_whole = refl

@@ -8,10 +8,11 @@ use native.Mathlib.Numerals.{add-one}
 use native.Mathlib.Nat.{sub-zero}
 use native.Mathlib.Decide.{ℕ_discrete}
 use native.Mathlib.Omega.{arith}
-use borrow.Author.Tests.{leb-true, eq-eqb, ne_eqb}
+use borrow.Author.Tests.{eqb-true, leb-true, eq-eqb, ne_eqb}
 use lib.Dec.{eqb, leb}
 use lib.ListN.{length, take, drop, get_or, set, length-map, length-set}
 use lib.Seq.{length-take-le, take-suc, take-suc-set, get_or-set_same, get_or-set_other, slice, slice-cons}
+use Rattle.std.specs.Prelude.{IfSome, Option}
 use Rattle.laws.specs.Lists.{all}
 use Rattle.laws.proofs.Lists.{and_true_split, all_taken}
 use Rattle.meaning.specs.Events as Events
@@ -38,6 +39,10 @@ matches_counts y e l h m k =
     let a : length (map view_parameter t) ≡ y.count = length-map t view_parameter ∙ length-take-le y.count y.parameters (omega arith) in
     let b : length (take e.count e.args) ≡ e.count = length-take-le e.count e.args (omega arith) in
     rw (a, b)
+
+pub same_count : (y : Symbol) (e : Event) → length y.parameters ≡ 4 → y.count ≤ 4 → length e.args ≡ 4 → e.count ≤ 4
+    → Events.matches (view_symbol y) (view_event e) ≡ true → e.count ≡ y.count
+same_count y e l h m k b = sym (eqb-true y.count e.count (and_true_split (eqb y.kind e.kind) _ (sym (matches_counts y e l h m k) ∙ b)).1)
 
 -- what the tests of the code say of two demands
 pub unequal : (d x : Events.Demand) → x.variable ≡ d.variable → (x.value ≡ d.value → ⊥) → Events.compatible d x ≡ false
@@ -159,11 +164,11 @@ module _ (y : Symbol) (e : Event) (few : y.count ≤ 4) where
         }
 
   -- when no place is left the demands are gathered, and they are ready where the places are sound
-  pub gathered_all : (b : Bool) {m i : ℕ} {l : List Demand} → all (sound_parameter 4) (view_symbol y).parameters ≡ true → i ≤ y.count → y.count ≤ i
-      → Gathered y e m i l → let r : Constraint = record { ok = b; count = m; demands = l } in
+  pub gathered_all : {m i : ℕ} {l : List Demand} → all (sound_parameter 4) (view_symbol y).parameters ≡ true → i ≤ y.count → y.count ≤ i
+      → Gathered y e m i l → let r : Constraint = record { count = m; demands = l } in
       (demands_in r ≡ Events.demands_of (view_symbol y).parameters (view_event e).args) × Ready r
   unfolding demands_in
-  gathered_all b {m} {i} {l} s u v g =
+  gathered_all {m} {i} {l} s u v g =
       let z : rest_of y e i ≡ [] = rw (ahead_none view_parameter y.parameters i y.count v) in
       let w : map view_demand (take m l) ≡ Events.demands_of (view_symbol y).parameters (view_event e).args =
       sym (append-nil _) ∙ ap (λ r. map view_demand (take m l) ++ r) (sym z) ∙ g.whole in
@@ -191,18 +196,18 @@ within_at table n i l h a =
     (leb-true _ 4 s.0, s.1)
 
 -- the first i elements of an array are the constraints of the first i symbols of a table
-pub record Filled (e : Event) (table : List Symbol) (i : ℕ) (r : List Constraint) : Type 0 where
+pub record Filled (e : Event) (table : List Symbol) (i : ℕ) (r : List (Option Constraint)) : Type 0 where
   pub long : length r ≡ 16
   pub views : map view_constraint (take i r) ≡ map (λ y. Events.constraint_of (view_symbol y) (view_event e)) (take i table)
-  pub ready : (k : ℕ) → k < i → Ready (get_or r k no_constraint)
+  pub ready : (k : ℕ) → k < i → IfSome (get_or r k no_constraint) Ready
 
-module _ {e : Event} {table : List Symbol} {r : List Constraint} where
+module _ {e : Event} {table : List Symbol} {r : List (Option Constraint)} where
   pub filled_none : length r ≡ 16 → Filled e table 0 r
   filled_none h = record { long = h; views = refl; ready = λ k l. absurd (omega arith) }
 
-  pub filled_more : {i : ℕ} {x : Constraint} → i < 16 → i < length table
-      → view_constraint x ≡ Events.constraint_of (view_symbol (symbol_at table i)) (view_event e) → Ready x → Filled e table i r → Filled e table (i + 1) (set r i x)
-  filled_more {i} {x} h k v y d =
+  pub filled_more : {i : ℕ} (x : Option Constraint) → i < 16 → i < length table
+      → view_constraint x ≡ Events.constraint_of (view_symbol (symbol_at table i)) (view_event e) → IfSome x Ready → Filled e table i r → Filled e table (i + 1) (set r i x)
+  filled_more {i} x h k v y d =
       let l = d.long in
       let t = take-suc table i (record { kind = 0; count = 0; parameters = [] }) k in
       record {
@@ -211,6 +216,6 @@ module _ {e : Event} {table : List Symbol} {r : List Constraint} where
         ready = λ k j. go k j (ℕ_discrete k i);
       }
     where
-      go : (k : ℕ) → k < i + 1 → Dec (k ≡ i) → Ready (get_or (set r i x) k no_constraint)
+      go : (k : ℕ) → k < i + 1 → Dec (k ≡ i) → IfSome (get_or (set r i x) k no_constraint) Ready
       go k j (yes q) = let l = d.long in rw (q, get_or-set_same r i x no_constraint (omega arith)) y
       go k j (no q) = rw (get_or-set_other r i k x no_constraint q) (d.ready k (omega arith))

@@ -5,6 +5,9 @@ pub const RECORD_ROOM: usize = record::RECORD + 1;
 
 pub const BUFFER: usize = 64;
 
+// "Row, 24 bytes"
+pub const ROW: usize = 24;
+
 // Exclusions of a variable, events that are accepted, and the longest text of a book.
 pub const EXCLUSIONS: usize = 6;
 

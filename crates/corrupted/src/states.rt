@@ -1,5 +1,4 @@
 // The states that are lent, from what they hold at position 1; and damage to one that holds two disjuncts.
-// Damage of kind 0 leaves it, 1 to 10 take it out of what document 01 calls sound.
 use crate::amounts;
 use crate::sizes::{EXCLUSIONS, MOST_EVENTS};
 use disjunct::Disjunct;
@@ -7,118 +6,119 @@ use slot::Slot;
 use state::{CAPACITY, State};
 use table::VARIABLES;
 
-// The event number, and up to two disjuncts.
+// The event number, and up to two disjuncts, the second only beside a first.
 #[derive(Clone, Copy)]
 pub struct Held {
     pub number: u32,
-    pub count: usize,
-    pub first: Disjunct,
-    pub second: Disjunct,
+    pub first: Option<Disjunct>,
+    pub second: Option<Disjunct>,
 }
 
-fn slot(bound: bool, value: u32, count: usize, excluded: [u32; EXCLUSIONS]) -> Slot {
+// A variable with a value; one that is free without some values; and one of which nothing is said.
+fn holding(value: u32) -> Slot {
     Slot {
-        bound: bound,
-        value: value,
-        count: count,
-        excluded: excluded,
+        bound: true,
+        value,
+        count: 0,
+        excluded: [0; EXCLUSIONS],
     }
 }
 
-// `d` has the value, `s` is free without the first n of xs, the further variables are free.
-pub fn partial(value: u32, n: usize, xs: [u32; EXCLUSIONS]) -> Disjunct {
-    let d = slot(true, value, 0, [0u32; EXCLUSIONS]);
-    let s = slot(false, 0, n, xs);
-    let f = slot(false, 0, 0, [0u32; EXCLUSIONS]);
-    Disjunct { vars: [d, s, f, f] }
+fn without(xs: &[u32]) -> Slot {
+    let mut excluded = [0; EXCLUSIONS];
+    for (place, x) in excluded.iter_mut().zip(xs) {
+        *place = *x;
+    }
+    Slot {
+        bound: false,
+        value: 0,
+        count: xs.len(),
+        excluded,
+    }
+}
+
+fn open() -> Slot {
+    without(&[])
+}
+
+// `d` has the value, `s` is free without xs, the further variables are free.
+pub fn partial(value: u32, xs: &[u32]) -> Disjunct {
+    Disjunct {
+        vars: [holding(value), without(xs), open(), open()],
+    }
 }
 
 // The disjunct that says nothing.
 pub fn free() -> Disjunct {
-    let f = slot(false, 0, 0, [0u32; EXCLUSIONS]);
     Disjunct {
-        vars: [f; VARIABLES],
+        vars: [open(); VARIABLES],
     }
 }
 
 // All that a place can have, filled with x.
 fn filled(x: u64) -> Disjunct {
     let short = amounts::short(x);
-    let f = slot(x % 2 == 1, short, x as usize, [short; EXCLUSIONS]);
+    let s = Slot {
+        bound: x % 2 == 1,
+        value: short,
+        count: x as usize,
+        excluded: [short; EXCLUSIONS],
+    };
     Disjunct {
-        vars: [f; VARIABLES],
+        vars: [s; VARIABLES],
     }
 }
 
 // What is held stands first; the places behind it are as told.
 fn pooled(h: Held, position: u32, other: Disjunct) -> State {
-    let first = h.first;
-    let second = h.second;
     let mut r = State {
         number: h.number,
-        count: h.count,
+        count: 0,
         positions: [position; CAPACITY],
         pool: [other; CAPACITY],
     };
-    if 0 < h.count {
-        r.positions[0] = 1;
-        r.pool[0] = first;
-    }
-    if 1 < h.count {
-        r.positions[1] = 1;
-        r.pool[1] = second;
+    for (i, held) in [h.first, h.second].iter().enumerate() {
+        if let Some(d) = held {
+            r.positions[i] = 1;
+            r.pool[i] = *d;
+            r.count = i + 1;
+        }
     }
     r
 }
 
 // The state as the watch leaves it, all that is not counted zero.
 pub fn clean(h: Held) -> State {
-    let f = free();
-    pooled(h, 0, f)
+    pooled(h, 0, free())
 }
 
 // The same with all that no count reaches filled with x.
 pub fn spare(h: Held, x: u64) -> State {
-    let first = h.first;
-    let second = h.second;
-    let d = unread(first, x);
-    let e = unread(second, x / 2);
-    let f = filled(x);
     let dirty = Held {
-        number: h.number,
-        count: h.count,
-        first: d,
-        second: e,
+        first: h.first.map(|d| unread(d, x)),
+        second: h.second.map(|d| unread(d, x / 2)),
+        ..h
     };
-    pooled(dirty, amounts::short(x), f)
+    pooled(dirty, amounts::short(x), filled(x))
 }
 
 // The variables beyond the two, the exclusions beyond their count and the value of a free variable filled with x.
 fn unread(d: Disjunct, x: u64) -> Disjunct {
-    let f = filled(x);
-    let a = d.vars[0];
-    let b = d.vars[1];
-    let c = f.vars[2];
-    let v = uncounted(a, amounts::short(x));
-    let w = uncounted(b, amounts::short(x));
-    Disjunct { vars: [v, w, c, c] }
+    let [a, b, _, _] = d.vars;
+    let [_, _, c, e] = filled(x).vars;
+    let short = amounts::short(x);
+    Disjunct {
+        vars: [uncounted(a, short), uncounted(b, short), c, e],
+    }
 }
 
 fn uncounted(s: Slot, x: u32) -> Slot {
-    let value = if s.bound { s.value } else { x };
-    let excluded = s.excluded;
-    let n = s.count;
-    let xs = beyond(excluded, n, x);
-    slot(s.bound, value, n, xs)
-}
-
-// The numbers from the n-th on replaced by x.
-fn beyond(xs: [u32; EXCLUSIONS], n: usize, x: u32) -> [u32; EXCLUSIONS] {
-    let mut r = xs;
-    let mut i = n;
-    while i < EXCLUSIONS {
-        r[i] = x;
-        i += 1;
+    let mut r = s;
+    if !s.bound {
+        r.value = x;
+    }
+    for y in r.excluded.iter_mut().skip(s.count) {
+        *y = x;
     }
     r
 }
@@ -129,42 +129,68 @@ pub fn changed(s: State, at: usize, d: Disjunct) -> State {
     if at < CAPACITY {
         r.positions[at] = 1;
         r.pool[at] = d;
-        if s.count <= at {
-            r.count = at + 1;
-        }
+        r.count = s.count.max(at + 1);
     }
     r
 }
 
-pub fn damaged(s: State, kind: u32, x: u64, y: u64) -> State {
+// How a state that holds two disjuncts is damaged: a number or a count out of its range; position 0, or one beyond the two; the disjuncts
+// exchanged, or the same in all that is judged; too many exclusions, exclusions that descend or are equal, or exclusions at a bound
+// variable. None of it is what document 01 calls sound.
+#[derive(Clone, Copy)]
+pub enum Damage {
+    NumberBeyond,
+    ManyDisjuncts,
+    PositionZero,
+    PositionBeyond,
+    Exchanged,
+    Twins,
+    ManyExclusions,
+    Descending,
+    Equal,
+    BoundExclusions,
+}
+
+impl Damage {
+    pub const ALL: [Damage; 10] = [
+        Damage::NumberBeyond,
+        Damage::ManyDisjuncts,
+        Damage::PositionZero,
+        Damage::PositionBeyond,
+        Damage::Exchanged,
+        Damage::Twins,
+        Damage::ManyExclusions,
+        Damage::Descending,
+        Damage::Equal,
+        Damage::BoundExclusions,
+    ];
+}
+
+// The state with the damage, if there is any; x says how much, y where.
+pub fn damaged(s: State, damage: Option<Damage>, x: u64, y: u64) -> State {
+    let Some(damage) = damage else {
+        return s;
+    };
     let i = (y % 2) as usize;
-    let d = s.pool[0];
-    let e = s.pool[1];
     let mut r = s;
-    match kind {
-        0 => {}
-        1 => {
-            r.number = amounts::above_short(MOST_EVENTS + 1, x);
+    match damage {
+        Damage::NumberBeyond => r.number = amounts::above_short(MOST_EVENTS + 1, x),
+        Damage::ManyDisjuncts => r.count = amounts::above(CAPACITY + 1, x),
+        Damage::PositionZero => r.positions[i] = 0,
+        Damage::PositionBeyond => r.positions[i] = amounts::above_short(3, x),
+        Damage::Exchanged => r.pool.swap(0, 1),
+        Damage::Twins => r.pool[1] = twin(s.pool[0], x),
+        Damage::ManyExclusions => {
+            r.pool[i].vars[1] = Slot {
+                count: amounts::above(EXCLUSIONS + 1, x),
+                ..without(&[1, 2, 3, 4, 5, 6])
+            }
         }
-        2 => {
-            r.count = amounts::above(CAPACITY + 1, x);
-        }
-        3 => {
-            r.positions[i] = 0;
-        }
-        4 => {
-            r.positions[i] = amounts::above_short(3, x);
-        }
-        5 => {
-            r.pool[0] = e;
-            r.pool[1] = d;
-        }
-        6 => {
-            r.pool[1] = twin(d, x);
-        }
-        _ => {
-            let f = s.pool[i];
-            r.pool[i] = misheld(f, kind, x);
+        Damage::Descending => r.pool[i].vars[1] = without(&[9, 7]),
+        Damage::Equal => r.pool[i].vars[1] = without(&[7, 7]),
+        Damage::BoundExclusions => {
+            r.pool[i].vars[0].bound = true;
+            r.pool[i].vars[0].count = amounts::above(1, x);
         }
     }
     r
@@ -173,33 +199,9 @@ pub fn damaged(s: State, kind: u32, x: u64, y: u64) -> State {
 // The same disjunct in all that is judged.
 fn twin(d: Disjunct, x: u64) -> Disjunct {
     let mut r = d;
-    r.vars[3] = slot(true, amounts::short(x), x as usize, [0u32; EXCLUSIONS]);
-    r
-}
-
-// Too many exclusions, exclusions that descend or are equal, or exclusions at a bound variable.
-fn misheld(d: Disjunct, kind: u32, x: u64) -> Disjunct {
-    let a = d.vars[0];
-    let excluded = a.excluded;
-    let mut r = d;
-    match kind {
-        7 => {
-            r.vars[1] = slot(
-                false,
-                0,
-                amounts::above(EXCLUSIONS + 1, x),
-                [1u32, 2, 3, 4, 5, 6],
-            );
-        }
-        8 => {
-            r.vars[1] = slot(false, 0, 2, [9u32, 7, 0, 0, 0, 0]);
-        }
-        9 => {
-            r.vars[1] = slot(false, 0, 2, [7u32, 7, 0, 0, 0, 0]);
-        }
-        _ => {
-            r.vars[0] = slot(true, a.value, amounts::above(1, x), excluded);
-        }
-    }
+    r.vars[3] = Slot {
+        count: x as usize,
+        ..holding(amounts::short(x))
+    };
     r
 }

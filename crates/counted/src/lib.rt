@@ -24,22 +24,12 @@ pub struct Given {
 fn beside_tally(t: Taken) -> Given
     ensures { result ≡ given_of t }
 {
-    let answer = t.answer;
-    let book = t.book;
-    let state = t.state;
     Given {
-        answer: answer,
+        answer: t.answer,
         rows: t.rows,
-        book: book,
-        state: state,
+        book: t.book,
+        state: t.state,
     }
-}
-
-// The tally that a call hands back.
-fn tally_of(t: Taken) -> Tally
-    ensures { result ≡ t.tally }
-{
-    t.tally
 }
 
 // One event call; the lent tally is changed as the by-value call changes its own.
@@ -57,6 +47,6 @@ pub fn event(
         × (is_bytes bytes.now ≡ true) }
 {
     let t = watch::event(book, state, bytes, rows, place, *tally);
-    *tally = tally_of(t);
+    *tally = t.tally;
     beside_tally(t)
 }

@@ -1,7 +1,7 @@
--- What a constraint of the code says: its view by the flag, and its counted demands by element, from a number on, and by their bound.
+-- What a constraint of the code says: its counted demands by element, from a number on, and by their bound.
 -- For the crates above.
 use mathlib.Core.Path.{◌≡◌, refl, sym, ap, ◌∙◌}
-use mathlib.Core.Bool.{Bool, true, false, cond}
+use mathlib.Core.Bool.{Bool}
 use mathlib.Core.List.{[], ◌∷◌}
 use Prim.Native.Nat.{ℕ, ◌+◌, ◌≤◌, ◌<◌}
 use lib.ListN.{length, take, drop, get_or, get_or-map}
@@ -13,21 +13,13 @@ use Rattle.laws.proofs.Maps.{mapped_cons, mapped_none}
 use Rattle.meaning.specs.Events as Events
 use Rattle.demand.specs.declared.Demand.{Demand}
 use Rattle.demand.specs.declared.Constraint.{Constraint}
-use Rattle.demand.specs.Constraints.{view_demand, demands_in, view_constraint, no_demand, Ready}
+use Rattle.demand.specs.Constraints.{view_demand, demands_in, no_demand, Ready}
 
 -- the struct that holds no demand
 abbrev pub empty_demand : Demand
 empty_demand = record { variable = 0; value = 0 }
 
 module _ (c : Constraint) where
-  pub demands_view : c.ok ≡ true → view_constraint c ≡ Events.Constraint.demands (demands_in c)
-  unfolding view_constraint
-  demands_view h = ap (λ (b : Bool). cond b (Events.Constraint.demands (demands_in c)) Events.Constraint.never) h
-
-  pub never_view : c.ok ≡ false → view_constraint c ≡ Events.Constraint.never
-  unfolding view_constraint
-  never_view h = ap (λ (b : Bool). cond b (Events.Constraint.demands (demands_in c)) Events.Constraint.never) h
-
   pub demand_at : length c.demands ≡ 4 → c.count ≤ 4 → (i : ℕ) → i < c.count
       → get_or (demands_in c) i no_demand ≡ view_demand (get_or c.demands i empty_demand)
   unfolding demands_in

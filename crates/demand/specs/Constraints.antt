@@ -1,5 +1,5 @@
 -- How the code holds a constraint: the view of it is the constraint of the meaning.
-use Rattle.std.specs.Prelude.{◌≡◌, true, false, cond, List, [], map, ◌≤◌, ltb, take}
+use Rattle.std.specs.Prelude.{◌≡◌, true, List, map, ◌≤◌, ltb, take, Option, Some, None}
 use Rattle.laws.specs.Lists.{all}
 use Rattle.meaning.specs.Events as Events
 use Rattle.meaning.specs.Limits.{variable_limit, parameter_limit}
@@ -13,15 +13,16 @@ view_demand d = record { variable = d.variable; value = d.value }
 unfoldable pub demands_in : Constraint → List Events.Demand
 demands_in c = map view_demand (take c.count c.demands)
 
-unfoldable pub view_constraint : Constraint → Events.Constraint
-view_constraint c = cond c.ok (Events.Constraint.demands (demands_in c)) Events.Constraint.never
+abbrev pub view_constraint : Option Constraint → Events.Constraint
+view_constraint None = Events.Constraint.never
+view_constraint (Some c) = Events.Constraint.demands (demands_in c)
 
 -- no demand and no constraint, for places that hold none
 abbrev pub no_demand : Events.Demand
 no_demand = record { variable = 0; value = 0 }
 
-abbrev pub no_constraint : Constraint
-no_constraint = record { ok = false; count = 0; demands = [] }
+abbrev pub no_constraint : Option Constraint
+no_constraint = None
 
 -- a constraint that the code has built: four places, no more counted, and every demand on one of four variables
 pub record Ready (c : Constraint) : Type 0 where

@@ -6,16 +6,15 @@
 pub const DEMANDS: usize = 4;
 
 // "variable equals argument"
-#[derive(Clone, Copy)]
+#[derive(Clone, Copy, PartialEq, Eq)]
 pub struct Demand {
     pub variable: u32,
     pub value: u32,
 }
 
-// The first `count` demands, or (ok false) false.
-#[derive(Clone, Copy)]
+// The first `count` demands, all of which must hold. A constraint that is false is the `None` of an `Option`.
+#[derive(Clone, Copy, PartialEq, Eq)]
 pub struct Constraint {
-    pub ok: bool,
     pub count: usize,
     pub demands: [Demand; DEMANDS],
 }

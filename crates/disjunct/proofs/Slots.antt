@@ -1,22 +1,27 @@
 -- What the functions of this crate share: a slot of a disjunct against its entry, an array of slots written in one place, or filled
 -- from the front, and a lexicographic comparison by its first elements.
 use mathlib.Core.Path.{◌≡◌, refl, sym, ap, ap₂, ◌∙◌}
-use mathlib.Core.Bool.{Bool, true, false, cond, not}
+use mathlib.Core.Bool.{Bool, true, false, cond, not, ◌||◌}
+use Rattle.std.specs.List.{list_any}
+use Rattle.laws.specs.Lists.{any}
 use mathlib.Core.List.{List, [], ◌∷◌, map}
 use Prim.Native.Nat.{ℕ, zero, suc, ◌+◌, ◌≤◌, ◌<◌, compare, Ordering}
 use native.Mathlib.Numerals.{add-one}
 use native.Mathlib.Omega.{arith}
 use lib.ListN.{length, take, drop, get_or, set, length-map, drop_of_length-le, get_or-map}
-use lib.Seq.{length-take-le, drop-cons, set-get_or}
+use lib.Seq.{drop-cons}
 use Rattle.laws.specs.Order.{and_then, lex}
 use Rattle.laws.specs.Parts.{pad}
 use Rattle.laws.proofs.Maps.{take_map}
-use Rattle.laws.proofs.Parts.{pad_beyond, pad_next}
+use Rattle.laws.proofs.Parts.{pad_next}
 use Rattle.meaning.specs.Labels as Labels
 use Rattle.meaning.specs.Labels.{Entry, bound, free, entry_of, is_free, value_key, exclusions, compare_disjuncts}
 use Rattle.meaning.specs.Rows.{value_of}
 use Rattle.slot.specs.declared.Slot.{Slot}
+use Rattle.slot.specs.declared.Order.{Order}
+use Rattle.slot.specs.declared.Order.TheVariants.{Same}
 use Rattle.slot.specs.Slots.{view_slot, slot_of, rank}
+use Rattle.slot.proofs.Slots.{then_first, then_second}
 use Rattle.disjunct.specs.declared.Disjunct.{Disjunct}
 use Rattle.disjunct.specs.Disjuncts.{view_disjunct, disjunct_of}
 use Rattle.disjunct.proofs.Disjuncts.{view_length}
@@ -60,13 +65,10 @@ pub value_slot : (s : Slot) → cond s.bound s.value 0 ≡ value_of (view_slot s
 unfolding view_slot
 value_slot s = value_by s.bound s.value (take s.count s.excluded)
 
-module _ {A : Type 0} where
-  -- nothing is to be written where element i of a list is the padding
-  pub fill_same : (n : ℕ) (d : A) (l : List A) (i : ℕ) → i < n → n ≤ length l → get_or l i d ≡ d → pad n d (take i l) ≡ pad n d (take (i + 1) l)
-  fill_same n d l i h g e =
-      let k = length-take-le i l (omega arith) in
-      let p = pad n d (take i l) in
-      sym (set-get_or p i d) ∙ ap (set p i) (pad_beyond n d (take i l) i d (omega arith) h ∙ sym e) ∙ pad_next n d l i d (omega arith) h
+-- whether one of the slots is free
+pub free_slots : (l : List Slot) → list_any (λ s. not s.bound) l ≡ any is_free (map view_slot l)
+free_slots [] = refl
+free_slots (s ∷ l) = ap₂ ◌||◌ (free_slot s) (free_slots l)
 
 -- the first i variables, coded, and variable i in its place
 pub coded_next : (D : Labels.Disjunct) (i : ℕ) → i < 4 → 4 ≤ length D
@@ -79,26 +81,15 @@ coded_next D i h g =
     (ap₂ (λ l x. set (pad 4 z l) i x) (sym (take_map slot_of i D)) (sym (get_or-map slot_of D i (free [])))
     ∙ pad_next 4 z (map slot_of D) i z (omega arith) h ∙ ap (pad 4 z) (take_map slot_of (i + 1) D))
 
--- a first comparison that finds a difference decides; one that finds none leaves it to the second
-then_first : (p q : Ordering) → (rank p ≡ 1 → ⊥) → rank (and_then p q) ≡ rank p
-then_first Ordering.lt q h = refl
-then_first Ordering.eq q h = absurd (h refl)
-then_first Ordering.gt q h = refl
-
-then_second : (p q : Ordering) → rank p ≡ 1 → and_then p q ≡ q
-then_second Ordering.lt q h = absurd (omega arith)
-then_second Ordering.eq q h = refl
-then_second Ordering.gt q h = absurd (omega arith)
-
 -- values that differ decide the order of two disjuncts; those that do not leave it to the exclusions
-pub order_by_values : (D E : Labels.Disjunct) (o : ℕ) → o ≡ rank (lex compare (map value_key D) (map value_key E)) → (o ≡ 1 → ⊥)
+pub order_by_values : (D E : Labels.Disjunct) (o : Order) → o ≡ rank (lex compare (map value_key D) (map value_key E)) → (o ≡ Same → ⊥)
     → o ≡ rank (compare_disjuncts D E)
 unfolding compare_disjuncts
 order_by_values D E o h n =
     let p = lex compare (map value_key D) (map value_key E) in
     h ∙ sym (then_first p (lex (lex compare) (map exclusions D) (map exclusions E)) (λ e. n (h ∙ e)))
 
-pub order_by_exclusions : (D E : Labels.Disjunct) (o : ℕ) → o ≡ rank (lex compare (map value_key D) (map value_key E)) → o ≡ 1
+pub order_by_exclusions : (D E : Labels.Disjunct) (o : Order) → o ≡ rank (lex compare (map value_key D) (map value_key E)) → o ≡ Same
     → rank (lex (lex compare) (map exclusions D) (map exclusions E)) ≡ rank (compare_disjuncts D E)
 unfolding compare_disjuncts
 order_by_exclusions D E o h e =
@@ -127,10 +118,10 @@ module _ {A : Type 0} (cmp : A → A → Ordering) (key : Entry → A) (d e : Di
         ∙ ap₂ (λ a b. and_then (cmp a b) (lex cmp (drop (suc i) m) (drop (suc i) n))) (key_at key d i) (key_at key e i)
         ∙ ap (λ j. and_then (here i) (from j)) (sym (add-one i))
 
-    pub from_differs : (i o : ℕ) → i < 4 → o ≡ rank (here i) → (o ≡ 1 → ⊥) → o ≡ rank (from i)
+    pub from_differs : (i : ℕ) (o : Order) → i < 4 → o ≡ rank (here i) → (o ≡ Same → ⊥) → o ≡ rank (from i)
     from_differs i o k r n = r ∙ sym (ap rank (from_next i k) ∙ then_first (here i) (from (i + 1)) (λ q. n (r ∙ q)))
 
-    pub from_same : (i o : ℕ) → i < 4 → o ≡ rank (here i) → o ≡ 1 → from (i + 1) ≡ from i
+    pub from_same : (i : ℕ) (o : Order) → i < 4 → o ≡ rank (here i) → o ≡ Same → from (i + 1) ≡ from i
     from_same i o k r q = sym (from_next i k ∙ then_second (here i) (from (i + 1)) (sym r ∙ q))
 
     pub from_end : (i : ℕ) → 4 ≤ i → from i ≡ Ordering.eq

@@ -1,7 +1,7 @@
 // The disjunct: what it says of each of four variables; meeting and exclusion. For the matcher's sets; the order is in `ordering`.
 #![tactic(auto)]
 
-ghost use Rattle.std.specs.Prelude.{◌≡◌, true, false, ◌≤◌, ◌<◌, leb, length, take};
+ghost use Rattle.std.specs.Prelude.{◌≡◌, ◌≤◌, ◌<◌, leb, length, take, Some, is_some, IfSome};
 ghost use Rattle.laws.specs.Lists.{any};
 ghost use Rattle.meaning.specs.Labels as Labels;
 ghost use Rattle.meaning.specs.Room.{exclusion_limit};
@@ -14,16 +14,9 @@ use demand::Constraint;
 use slot::Slot;
 
 // A slot for each of four variables; those beyond the book's variables are free.
-#[derive(Clone, Copy)]
+#[derive(Clone, Copy, PartialEq, Eq)]
 pub struct Disjunct {
     pub vars: [Slot; Disjunct::VARIABLES],
-}
-
-// What a meeting or an exclusion gives: a disjunct, or (ok false) none; then the disjunct as it was.
-#[derive(Clone, Copy)]
-pub struct Met {
-    pub ok: bool,
-    pub disjunct: Disjunct,
 }
 
 impl Disjunct {
@@ -41,40 +34,25 @@ impl Disjunct {
         }
     }
 
-    // "Meeting a disjunct with a constraint yields a new disjunct or false"
-    pub fn meet(self, c: Constraint) -> Met
-        requires { Ready c }
-        ensures { (result.ok ≡ Labels.meets (view_disjunct self) (view_constraint c))
-            × (result.ok ≡ true → view_disjunct result.disjunct ≡ Labels.met (view_disjunct self) (view_constraint c))
-            × (result.ok ≡ false → result.disjunct ≡ self) }
+    // "Meeting a disjunct with a constraint yields a new disjunct or false": None is false, of the constraint and of the meeting.
+    pub fn meet(self, c: Option<Constraint>) -> Option<Disjunct>
+        requires { IfSome c Ready }
+        ensures meets { is_some result ≡ Labels.meets (view_disjunct self) (view_constraint c) }
+        ensures met { IfSome result (λ d. view_disjunct d ≡ Labels.met (view_disjunct self) (view_constraint c)) }
     {
+        let Some(constraint) = c else {
+            return None;
+        };
         let mut d = self;
-        let n = c.count;
-        if c.ok {
-            let mut i: usize = 0;
-            while i < n {
-                let x = c.demands[i];
-                let v = x.variable as usize;
-                let s = d.vars[v];
-                if s.admits(x.value) {
-                    d.vars[v] = Slot::holding(x.value);
-                    i += 1;
-                } else {
-                    return Met {
-                        ok: false,
-                        disjunct: self,
-                    };
-                }
+        for i in 0..constraint.count {
+            let x = constraint.demands[i];
+            let v = x.variable as usize;
+            if !d.vars[v].admits(x.value) {
+                return None;
             }
-            return Met {
-                ok: true,
-                disjunct: d,
-            };
+            d.vars[v] = Slot::holding(x.value);
         }
-        Met {
-            ok: false,
-            disjunct: self,
-        }
+        Some(d)
     }
 
     // Whether variable v is free.
@@ -82,33 +60,19 @@ impl Disjunct {
         requires { v < variable_limit }
         ensures { result ≡ Labels.is_free (Labels.entry_of (view_disjunct self) v) }
     {
-        let s = self.vars[v];
-        let bound = s.bound;
-        !bound
+        !self.vars[v].bound
     }
 
-    // x excluded at variable v; not the seventh one.
-    pub fn exclude(self, v: usize, x: u32) -> Met
+    // x excluded at variable v; none where it would be the seventh.
+    pub fn exclude(self, v: usize, x: u32) -> Option<Disjunct>
         requires { v < variable_limit }
-        ensures { (result.ok ≡ leb (length (Labels.exclusions (Labels.excluding (Labels.entry_of (view_disjunct self) v) x))) exclusion_limit)
-            × (result.ok ≡ true → view_disjunct result.disjunct ≡ Labels.exclude (view_disjunct self) (record { variable = v; value = x }))
-            × (result.ok ≡ false → result.disjunct ≡ self) }
+        ensures room { is_some result ≡ leb (length (Labels.exclusions (Labels.excluding (Labels.entry_of (view_disjunct self) v) x))) exclusion_limit }
+        ensures excluded { IfSome result (λ d. view_disjunct d ≡ Labels.exclude (view_disjunct self) (record { variable = v; value = x })) }
     {
-        let s = self.vars[v];
-        let e = s.excluding(x);
-        if e.ok {
-            let t = e.slot;
-            let mut d = self;
-            d.vars[v] = t;
-            return Met {
-                ok: true,
-                disjunct: d,
-            };
-        }
-        Met {
-            ok: false,
-            disjunct: self,
-        }
+        let mut d = self;
+        let slot = self.vars[v].excluding(x)?;
+        d.vars[v] = slot;
+        Some(d)
     }
 
     // The first n variables as they are, the others free, and all that is not counted zero.
@@ -117,11 +81,8 @@ impl Disjunct {
         ensures { result ≡ disjunct_of (take n (view_disjunct self)) }
     {
         let mut d = Disjunct::free();
-        let mut i: usize = 0;
-        while i < n {
-            let s = self.vars[i];
-            d.vars[i] = s.tidied();
-            i += 1;
+        for i in 0..n {
+            d.vars[i] = self.vars[i].tidied();
         }
         d
     }
@@ -130,16 +91,7 @@ impl Disjunct {
     pub fn values(self) -> [u32; Disjunct::VARIABLES]
         ensures { result ≡ valuation_of (view_disjunct self) }
     {
-        let mut r = [0u32; Disjunct::VARIABLES];
-        let mut i: usize = 0;
-        while i < Disjunct::VARIABLES {
-            let s = self.vars[i];
-            if s.bound {
-                r[i] = s.value;
-            }
-            i += 1;
-        }
-        r
+        self.vars.map(|s| if s.bound { s.value } else { 0 })
     }
 
     // Whether one of the first n variables is free.
@@ -147,13 +99,6 @@ impl Disjunct {
         requires { n ≤ variable_limit }
         ensures { result ≡ any Labels.is_free (take n (view_disjunct self)) }
     {
-        let mut i: usize = 0;
-        while i < n {
-            if self.is_free(i) {
-                return true;
-            }
-            i += 1;
-        }
-        false
+        self.vars[..n].iter().any(|s| !s.bound)
     }
 }

@@ -1,45 +1,23 @@
 // What is lent to the event call in one case, drawn from the seed of the case: which kinds of damage there are, the book, the state, the
 // record, the tally, and the buffer with the place from which rows go into it.
-use crate::moves;
 use crate::moves::Move;
 use book::Book;
+use corrupted::cases::Space;
 use corrupted::records::Lent;
-use corrupted::sizes::BUFFER;
-use corrupted::{amounts, books, records, states};
-use row::ROW;
+use corrupted::sizes::{BUFFER, ROW};
+use corrupted::{amounts, books, cases, records, states};
 use state::State;
 use tally::Tally;
 
-// The kinds of damage of one case, 0 for none.
-#[derive(Clone, Copy)]
-pub struct Kinds {
-    pub book: u32,
-    pub state: u32,
-    pub record: u32,
-}
-
-// The buffer's length, and the place from which rows go into it.
-#[derive(Clone, Copy)]
-pub struct Space {
-    pub size: usize,
-    pub place: usize,
-}
-
-// One of the kinds of damage, or most often none.
-fn kind(seed: u64, k: u64, kinds: u64) -> u32 {
-    if draws::below(seed, k, 4) != 0 {
-        return 0;
-    }
-    amounts::short(1 + draws::below(seed, k % 1000 + 1, kinds) % 1000)
-}
+pub type Damages = cases::Damages<books::Damage, states::Damage>;
 
 // What is damaged in a case: a state only where it holds two disjuncts.
-pub fn damages(seed: u64, held: usize) -> Kinds {
-    let state = kind(seed, 32, 10);
-    Kinds {
-        book: kind(seed, 30, 17),
-        state: if held == 2 { state } else { 0 },
-        record: kind(seed, 34, 8),
+pub fn drawn_damages(seed: u64, m: Move) -> Damages {
+    let state = amounts::kind(seed, 32, 4, &states::Damage::ALL);
+    Damages {
+        book: amounts::kind(seed, 30, 4, &books::Damage::ALL),
+        state: state.filter(|_| m.held.second.is_some()),
+        record: amounts::kind(seed, 34, 4, &records::Damage::ALL),
     }
 }
 
@@ -50,18 +28,23 @@ pub fn drawn_space(seed: u64) -> Space {
     let place = draws::below(seed, 42, 71) as usize;
     let near = draws::below(seed, 43, 2) as usize;
     match draws::below(seed, 40, 16) {
-        0..=2 => spaced(size, place),
-        3..=4 => spaced(ROW + size % 40, size % 40 + near % 2),
-        5 => spaced(size, size % 64 + near % 2),
-        6 => spaced(size, amounts::amount(seed, 44) as usize),
-        _ => spaced(BUFFER, place % 41),
-    }
-}
-
-pub fn spaced(size: usize, place: usize) -> Space {
-    Space {
-        size: size,
-        place: place,
+        0..=2 => Space { size, place },
+        3..=4 => Space {
+            size: ROW + size % 40,
+            place: size % 40 + near,
+        },
+        5 => Space {
+            size,
+            place: size + near,
+        },
+        6 => Space {
+            size,
+            place: amounts::amount(seed, 44) as usize,
+        },
+        _ => Space {
+            size: BUFFER,
+            place: place % 41,
+        },
     }
 }
 
@@ -76,68 +59,47 @@ fn somewhere(seed: u64) -> u64 {
 }
 
 fn given(seed: u64) -> u32 {
-    let number = amounts::short(much(seed));
-    if draws::below(seed, 90, 2) == 0 {
-        return number;
-    }
-    number ^ 1 << (draws::below(seed, 91, 32) % 32)
+    amounts::near(seed, 90, amounts::short(much(seed)))
 }
 
 // What the event does, with the damage to the book: "The symbol's constraint is false where that argument differs."
-pub fn meant(seed: u64, m: Move, kind: u32) -> Move {
-    if kind == books::FIXED && given(seed) != amounts::short(much(seed)) {
-        return moves::passed_over(m);
+pub fn meant(seed: u64, m: Move, damage: Option<books::Damage>) -> Move {
+    if damage == Some(books::Damage::Fixed) && given(seed) != amounts::short(much(seed)) {
+        return m.passed_over();
     }
     m
 }
 
 // The book that is lent: what no count reaches filled, one time in two, and then the damage.
-pub fn lent_book(seed: u64, b: Book, kind: u32) -> Book {
-    let x = much(seed);
-    let y = somewhere(seed);
-    if draws::below(seed, 53, 2) == 0 {
-        return books::damaged(b, kind, x, y);
-    }
-    let c = books::spare(b, amounts::amount(seed, 54));
-    books::damaged(c, kind, x, y)
+pub fn lent_book(seed: u64, b: Book, damage: Option<books::Damage>) -> Book {
+    let lent = match draws::below(seed, 53, 2) {
+        0 => b,
+        _ => books::spare(b, amounts::amount(seed, 54)),
+    };
+    books::damaged(lent, damage, much(seed), somewhere(seed))
 }
 
 // The state, in the same way.
-pub fn lent_state(seed: u64, m: Move, kind: u32) -> State {
-    let h = m.held;
+pub fn lent_state(seed: u64, m: Move, damage: Option<states::Damage>) -> State {
+    let lent = match draws::below(seed, 63, 2) {
+        0 => states::clean(m.held),
+        _ => states::spare(m.held, amounts::amount(seed, 64)),
+    };
     let x = amounts::amount(seed, 60);
-    let y = draws::below(seed, 62, 1000000);
-    if draws::below(seed, 63, 2) == 0 {
-        let s = states::clean(h);
-        return states::damaged(s, kind, x, y);
-    }
-    let s = states::spare(h, amounts::amount(seed, 64));
-    states::damaged(s, kind, x, y)
+    states::damaged(lent, damage, x, draws::below(seed, 62, 1000000))
 }
 
-// The event's bytes: with an argument more where the symbols have a fixed number.
-fn written(seed: u64, m: Move, kind: u32) -> Lent {
-    if kind != books::FIXED {
-        return records::written(m.kind, m.count, m.a, m.b, 0);
-    }
-    let count = m.count % 3 + 1;
-    let g = given(seed);
-    match books::place(somewhere(seed), m.count as u64) {
-        0 => records::written(m.kind, count, g, m.a, m.b),
-        1 => records::written(m.kind, count, m.a, g, m.b),
-        _ => records::written(m.kind, count, m.a, m.b, g),
-    }
-}
-
-// The event's record, with the damage.
-pub fn lent_record(seed: u64, m: Move, k: Kinds) -> Lent {
-    let l = written(seed, m, k.book);
-    records::damaged(
-        l,
-        k.record,
-        amounts::amount(seed, 70),
-        draws::below(seed, 72, 1000000),
-    )
+// The event's record, with the damage: with an argument more where the symbols have a fixed number.
+pub fn lent_record(seed: u64, m: Move, k: Damages) -> Lent {
+    let e = match k.book {
+        Some(books::Damage::Fixed) => {
+            let at = books::place(somewhere(seed), m.event.count as u64);
+            m.event.with(at, given(seed))
+        }
+        _ => m.event,
+    };
+    let x = amounts::amount(seed, 70);
+    records::damaged(e.record(), k.record, x, draws::below(seed, 72, 1000000))
 }
 
 pub fn lent_tally(seed: u64) -> Tally {
@@ -150,9 +112,7 @@ pub fn lent_tally(seed: u64) -> Tally {
 
 // The buffer, before the call.
 pub fn fill(seed: u64, out: &mut [u8]) {
-    let mut i: usize = 0;
-    while i < out.len() {
-        out[i] = amounts::byte(draws::below(seed, 1000 + i as u64 % 1000, 256));
-        i += 1;
+    for (i, b) in out.iter_mut().enumerate() {
+        *b = amounts::byte(draws::below(seed, 1000 + i as u64 % 1000, 256));
     }
 }

@@ -4,14 +4,12 @@
 
 ghost use Rattle.std.specs.Prelude.{◌≡◌, true, ℕ, ◌+◌};
 ghost use Rattle.form.specs.Text.{is_bytes};
-ghost use Rattle.tally.specs.Tallies.{tallied};
 ghost use Rattle.calls.specs.Calls.{taken, buffer_after};
 ghost use Rattle.promises.specs.ReadResults.{ReadingTold, ReadGives, PlaceGives, NameGives};
 ghost use Rattle.promises.specs.EventResults.{EventTold, state_of_nothing, TallyRises, EventGives};
 
 use book::{Book, Reading, ReadingAnswer};
 use calls::{EventAnswer, Taken};
-use counted::Given;
 use state::State;
 use table::Name;
 use tally::Tally;
@@ -56,22 +54,6 @@ pub fn event(
     watch::event(book, state, bytes, rows, place, tally)
 }
 
-// All that an event call hands back, and the tally that it changed.
-fn joined(g: Given, t: Tally) -> Taken
-    ensures { result ≡ record { answer = g.answer; rows = g.rows; book = g.book; state = g.state; tally = t } }
-{
-    let answer = g.answer;
-    let book = g.book;
-    let state = g.state;
-    Taken {
-        answer: answer,
-        rows: g.rows,
-        book: book,
-        state: state,
-        tally: t,
-    }
-}
-
 // The event call with the tally lent, its tally and all else that it hands back put together.
 fn lent_event(
     book: Book,
@@ -85,9 +67,15 @@ fn lent_event(
         × (rows.new ≡ buffer_after book state bytes.now rows.old place)
         × (is_bytes bytes.now ≡ true) }
 {
-    let mut t = tally;
-    let g = counted::event(book, state, bytes, rows, place, &mut t);
-    joined(g, t)
+    let mut tally = tally;
+    let given = counted::event(book, state, bytes, rows, place, &mut tally);
+    Taken {
+        answer: given.answer,
+        rows: given.rows,
+        book: given.book,
+        state: given.state,
+        tally,
+    }
 }
 
 // `counted::event`, whose lent tally comes back with the rest.
@@ -104,20 +92,13 @@ pub fn counted_event(
     lent_event(book, state, bytes, rows, place, tally)
 }
 
-// A tally lent to be counted on.
-fn lent_count(tally: Tally, accepted: u64, refused: u64, rows: u64) -> Tally
-    ensures { result ≡ tallied tally accepted refused rows }
-{
-    let mut t = tally;
-    tally::count(&mut t, accepted, refused, rows);
-    t
-}
-
 // `tally::count`, whose lent tally comes back.
 pub fn count(tally: Tally, accepted: u64, refused: u64, rows: u64) -> Tally
     ensures { TallyRises tally accepted refused rows result }
 {
-    lent_count(tally, accepted, refused, rows)
+    let mut t = tally;
+    tally::count(&mut t, accepted, refused, rows);
+    t
 }
 
 // `Tally::added` and `Tally::none`.

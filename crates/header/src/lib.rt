@@ -4,197 +4,199 @@
 
 mod numbers;
 
-use noted::{FROM, RUN, WORD_COUNT, declared};
+use noted::declared::{Argument, Symbol, Word};
+use noted::{Notes, Phase, Run};
+use numbers::number;
+use std::alloc::AllocError;
 
-// "0 to 4 variable names", "1 to 16 lines", "KIND is 1 to 255"; and a value that is no KIND.
-const VARIABLE_LIMIT: u32 = 4;
+// "0 to 4 variable names", "1 to 16 lines".
+const VARIABLE_LIMIT: usize = 4;
 
-const SYMBOL_LIMIT: u32 = 16;
-
-const KIND_LIMIT: u32 = 255;
-
-const NO_KIND: u32 = 1000;
+const SYMBOL_LIMIT: usize = 16;
 
 // The least number of words: `vars`, and `sym NAME KIND`.
-const VARS_WORDS: u32 = 1;
+const VARS_WORDS: usize = 1;
 
-const SYM_WORDS: u32 = 3;
+const SYM_WORDS: usize = 3;
 
-pub fn step(text: &[u8], work: &mut [u32], at: u32, b: u32) {
-    if b == b' ' as u32 {
-        space(text, work, at);
-    } else if b == b'\n' as u32 || b == noted::END {
-        line_end(text, work, at, b);
-    } else {
-        word_byte(work, at, b);
+// The byte at a place, or the end of the text.
+pub fn step(notes: &mut Notes<'_>, at: usize, byte: Option<u8>) -> Result<(), AllocError> {
+    match byte {
+        Some(b' ') => space(notes, at),
+        Some(b'\n') | None => line_end(notes, at, byte),
+        Some(_) => {
+            word_byte(notes, at);
+            Ok(())
+        }
     }
 }
 
 // "a space too many is 2 at that space": before the first word, or behind another.
-fn space(text: &[u8], work: &mut [u32], at: u32) {
-    if cells::get(work, RUN) != noted::WORD {
-        noted::fault(work, 2, at);
-        return;
-    }
-    word_end(text, work, at);
-    cells::put(work, RUN, noted::GAP);
-    cells::put(work, FROM, at);
+fn space(notes: &mut Notes<'_>, at: usize) -> Result<(), AllocError> {
+    let Run::Word(from) = notes.run else {
+        notes.fault(2, at);
+        return Ok(());
+    };
+    word_end(notes, from, at)?;
+    notes.run = Run::Gap(at);
+    Ok(())
 }
 
 // The last space of a line is one too many; "a missing one is placed at the LF, a missing LF at the book's end".
-fn line_end(text: &[u8], work: &mut [u32], at: u32, b: u32) {
-    let run = cells::get(work, RUN);
-    let from = cells::get(work, FROM);
-    word_end(text, work, at);
-    noted::fault_if(run == noted::GAP, work, 2, from);
-    let missing = cells::get(work, WORD_COUNT) < least_words(work);
-    noted::fault_if(missing || b == noted::END, work, 2, at);
-    noted::up(work, noted::LINE);
-    cells::put(work, WORD_COUNT, 0);
-    cells::put(work, RUN, noted::NOTHING);
-    if cells::get(work, noted::LEAST) != 0 {
-        cells::put(work, noted::PHASE, noted::OVER);
+fn line_end(notes: &mut Notes<'_>, at: usize, byte: Option<u8>) -> Result<(), AllocError> {
+    match notes.run {
+        Run::Nothing => {}
+        Run::Word(from) => word_end(notes, from, at)?,
+        Run::Gap(from) => notes.fault(2, from),
     }
+    if notes.words < least_words(notes) || byte.is_none() {
+        notes.fault(2, at);
+    }
+    notes.line = notes.line.saturating_add(1);
+    notes.words = 0;
+    notes.run = Run::Nothing;
+    if notes.least.is_some() {
+        notes.phase = Phase::Over;
+    }
+    Ok(())
 }
 
-fn least_words(work: &[u32]) -> u32 {
-    if cells::get(work, noted::LINE) == 0 {
+fn least_words(notes: &Notes<'_>) -> usize {
+    if notes.line == 0 {
         VARS_WORDS
     } else {
         SYM_WORDS
     }
 }
 
-fn word_byte(work: &mut [u32], at: u32, b: u32) {
-    if cells::get(work, RUN) != noted::WORD {
-        cells::put(work, RUN, noted::WORD);
-        cells::put(work, FROM, at);
-        noted::up(work, WORD_COUNT);
-        cells::put(work, noted::FORM, form(true, 1, b));
-        cells::put(work, noted::VALUE, value(0, b));
-        numbers::first(work, b);
-        return;
+fn word_byte(notes: &mut Notes<'_>, at: usize) {
+    if !matches!(notes.run, Run::Word(_)) {
+        notes.run = Run::Word(at);
+        notes.words = notes.words.saturating_add(1);
     }
-    numbers::next(work, b);
-    let form = form(false, cells::get(work, noted::FORM), b);
-    let value = value(cells::get(work, noted::VALUE), b);
-    cells::put(work, noted::FORM, form);
-    cells::put(work, noted::VALUE, value);
 }
 
-// 1 where a word that has the form of a name has it still with one byte more.
-fn form(first: bool, before: u32, b: u32) -> u32 {
-    if declared::is_letter(b) || !first && declared::is_digit(b) {
-        before
+// The word that ends before this place, by its number on its line.
+fn word_end(notes: &mut Notes<'_>, from: usize, at: usize) -> Result<(), AllocError> {
+    let word = notes.word(from, at);
+    if notes.line == 0 {
+        vars_word(notes, word)
     } else {
-        0
-    }
-}
-
-// "without leading zeros": a digit behind a value.
-fn value(before: u32, b: u32) -> u32 {
-    let d = declared::digit(b);
-    if declared::NO_DIGIT <= d || KIND_LIMIT < before || before == 0 && d == 0 {
-        return NO_KIND;
-    }
-    before % NO_KIND * 10 + d % declared::NO_DIGIT
-}
-
-// The word that ends before this place, if one does, by its number on its line.
-fn word_end(text: &[u8], work: &mut [u32], at: u32) {
-    if cells::get(work, RUN) != noted::WORD {
-        return;
-    }
-    let i = cells::get(work, WORD_COUNT);
-    let from = cells::get(work, FROM);
-    let size = noted::size(work, at);
-    if cells::get(work, noted::LINE) == 0 {
-        vars_word(text, work, i, from, size);
-    } else {
-        sym_word(text, work, i, from, size);
+        sym_word(notes, word)
     }
 }
 
 // "`vars`, then 0 to 4 variable names"; "the first excess word, of any form, carries 3".
-fn vars_word(text: &[u8], work: &mut [u32], i: u32, from: u32, size: u32) {
-    if i == 1 {
-        noted::fault_if(!declared::spells(text, from, size, b"vars"), work, 2, from);
-    } else if i <= 1 + VARIABLE_LIMIT {
-        name(text, work, from, size);
-        noted::up(work, noted::VARIABLES);
+fn vars_word<'a>(notes: &mut Notes<'a>, word: Word<'a>) -> Result<(), AllocError> {
+    if notes.words == 1 {
+        if !word.is(b"vars") {
+            notes.fault(2, word.start);
+        }
+    } else if notes.words <= 1 + VARIABLE_LIMIT {
+        name(notes, word);
+        notes.variables.push(word)?;
     } else {
-        noted::fault(work, 3, from);
+        notes.fault(3, word.start);
     }
+    Ok(())
 }
 
 // "`sym NAME KIND ARGS`. … ARGS are 0 to 4 words"
-fn sym_word(text: &[u8], work: &mut [u32], i: u32, from: u32, size: u32) {
-    match i {
-        1 => {
-            first_word(text, work, from, size);
-        }
-        2 => {
-            name(text, work, from, size);
-        }
-        3 => {
-            let kind = cells::get(work, noted::VALUE);
-            noted::fault_if(KIND_LIMIT < kind, work, 2, from);
-            declared::kind(work, kind);
-        }
-        4..=7 => {
-            argument(text, work, from, size);
-        }
-        _ => {
-            noted::fault(work, 3, from);
-        }
+fn sym_word<'a>(notes: &mut Notes<'a>, word: Word<'a>) -> Result<(), AllocError> {
+    match notes.words {
+        1 => first_word(notes, word),
+        2 => symbol(notes, word)?,
+        3 => kind(notes, word),
+        4..=7 => argument(notes, word)?,
+        _ => notes.fault(3, word.start),
     }
+    Ok(())
 }
 
 // `match` behind a `sym` line; else `sym`, "for a seventeenth `sym`, that word".
-fn first_word(text: &[u8], work: &mut [u32], from: u32, size: u32) {
-    let line = cells::get(work, noted::LINE);
-    if declared::spells(text, from, size, b"match") {
-        noted::fault_if(line == 1, work, 2, from);
-        cells::put(work, noted::PHASE, noted::PATTERN);
+fn first_word<'a>(notes: &mut Notes<'a>, word: Word<'a>) {
+    if word.is(b"match") {
+        if notes.line == 1 {
+            notes.fault(2, word.start);
+        }
+        notes.phase = Phase::Pattern;
         return;
     }
-    noted::fault_if(!declared::spells(text, from, size, b"sym"), work, 2, from);
-    noted::fault_if(SYMBOL_LIMIT < line, work, 3, from);
+    if !word.is(b"sym") {
+        notes.fault(2, word.start);
+    }
+    if SYMBOL_LIMIT < notes.line {
+        notes.fault(3, word.start);
+    }
+}
+
+fn symbol<'a>(notes: &mut Notes<'a>, word: Word<'a>) -> Result<(), AllocError> {
+    name(notes, word);
+    let arguments = Vec::new(*notes.symbols.allocator());
+    notes.symbols.push(Symbol {
+        name: word,
+        kind: 0,
+        arguments,
+    })?;
+    Ok(())
 }
 
 // Form and size of a name, and "name already declared".
-fn name(text: &[u8], work: &mut [u32], from: u32, size: u32) {
-    formed(work, from, size);
-    let names = cells::get(work, noted::NAMES);
-    let n = declared::find(text, work, 0, names, from, size);
-    noted::fault_if(n < names, work, 4, from);
-    declared::declare(work, from, size);
-}
-
-fn formed(work: &mut [u32], from: u32, size: u32) {
-    noted::fault_if(cells::get(work, noted::FORM) == 0, work, 2, from);
-    noted::fault_if(declared::NAME_BYTES < size, work, 3, from);
-}
-
-// "each a declared variable or `_`", or `=` and a number.
-fn argument(text: &[u8], work: &mut [u32], from: u32, size: u32) {
-    if declared::spells(text, from, size, b"_") {
-        declared::argument(work, noted::IGNORED, 0);
-    } else if cells::get(work, noted::SIGNED) == noted::PLAIN {
-        variable(text, work, from, size);
-    } else {
-        noted::fault_if(!numbers::is_right(work), work, 2, from);
-        let number = cells::get(work, noted::NUMBER);
-        declared::argument(work, noted::FIXED, number);
+fn name<'a>(notes: &mut Notes<'a>, word: Word<'a>) {
+    formed(notes, word);
+    if notes.is_declared(word.bytes) {
+        notes.fault(4, word.start);
     }
 }
 
+fn formed<'a>(notes: &mut Notes<'a>, word: Word<'a>) {
+    if !word.is_name() {
+        notes.fault(2, word.start);
+    }
+    if word.is_long() {
+        notes.fault(3, word.start);
+    }
+}
+
+// "KIND is 1 to 255"
+fn kind<'a>(notes: &mut Notes<'a>, word: Word<'a>) {
+    match number(word.bytes).and_then(|n| u8::try_from(n).ok()) {
+        None | Some(0) => notes.fault(2, word.start),
+        Some(kind) => {
+            if let Some(symbol) = notes.symbols.last_mut() {
+                symbol.kind = kind;
+            }
+        }
+    }
+}
+
+// "each a declared variable or `_`", or `=` and a number.
+fn argument<'a>(notes: &mut Notes<'a>, word: Word<'a>) -> Result<(), AllocError> {
+    let argument = match word.bytes {
+        b"_" => Some(Argument::Ignored),
+        [b'=', digits @ ..] => fixed(notes, word, digits),
+        _ => variable(notes, word),
+    };
+    if let (Some(symbol), Some(argument)) = (notes.symbols.last_mut(), argument) {
+        symbol.arguments.push(argument)?;
+    }
+    Ok(())
+}
+
+fn fixed<'a>(notes: &mut Notes<'a>, word: Word<'a>, digits: &[u8]) -> Option<Argument> {
+    let number = number(digits);
+    if number.is_none() {
+        notes.fault(2, word.start);
+    }
+    number.map(Argument::Fixed)
+}
+
 // "a symbol's name among ARGS … is 5".
-fn variable(text: &[u8], work: &mut [u32], from: u32, size: u32) {
-    formed(work, from, size);
-    let variables = cells::get(work, noted::VARIABLES);
-    let v = declared::find(text, work, 0, variables, from, size);
-    noted::fault_if(v == variables, work, 5, from);
-    declared::bind(work, v);
-    declared::argument(work, noted::VARIABLE, v);
+fn variable<'a>(notes: &mut Notes<'a>, word: Word<'a>) -> Option<Argument> {
+    formed(notes, word);
+    let v = notes.variables.iter().position(|w| w.is(word.bytes));
+    if v.is_none() {
+        notes.fault(5, word.start);
+    }
+    v.map(Argument::Variable)
 }

@@ -1,25 +1,20 @@
-// The words of a random book: how many variables, over which domain; symbols of few kinds and counts, so that several match one event,
-// a place ignored, a variable, which may stand twice, or a fixed number; and a pattern as nodes, each made of earlier ones. For `words`.
-use crate::draw;
-use cells::{ENTRIES, ENTRY_WORDS, FIRST, NODES, SECOND, SYMBOLS};
+// A random book: how many variables, over which domain; symbols of few kinds and counts, so that several match one event, a place
+// ignored, a variable, which may stand twice, or a fixed number; and a pattern as nodes, each made of earlier ones. For `trial_with`.
+use crate::{ARGUMENT, FIRST_NODE, FIRST_SYMBOL, KIND, PLACES, draw, small};
+use std::array;
+use trial::{Book, NODES, Node, Parameter, SYMBOLS, Symbol};
 
 // One book in so many is a gathering one; of the places without a variable one in so many is a number, of those that are in every domain;
-// the numbers of variables; symbols; kinds of nodes; nodes that may be the last.
-const GATHERING_IN: u32 = 8;
+// kinds of nodes; nodes that may be the last.
+const GATHERING_IN: usize = 8;
 
-const FIXED_IN: u32 = 2;
+const FIXED_IN: usize = 2;
 
-const NUMBER_COUNT: u32 = 3;
-
-const VARIABLE_COUNTS: u32 = 5;
-
-const SYMBOL_LIMIT: u32 = cells::SYMBOL_LIMIT as u32;
+const NUMBER_COUNT: u8 = 3;
 
 const NODE_KINDS: usize = 8;
 
-const ROOTS: u32 = 10;
-
-const FIRST_NODE: u32 = NODES as u32;
+const ROOTS: usize = 10;
 
 // Draws that are for no place of a trial.
 const KIND_OF_BOOK: usize = 1000;
@@ -42,164 +37,121 @@ const FIXED: usize = 1500;
 
 const NUMBERS: usize = 1600;
 
+// By the number of variables: the largest value, and how many valuations there are then.
+const FAMILIES: [(u8, usize); 5] = [(2, 1), (9, 10), (9, 100), (2, 27), (2, 81)];
+
+pub fn gathering(seed: u64) -> bool {
+    draw(seed, KIND_OF_BOOK, GATHERING_IN) == 0
+}
+
+fn variables(seed: u64) -> usize {
+    if gathering(seed) {
+        2
+    } else {
+        draw(seed, VARIABLES, FAMILIES.len())
+    }
+}
+
+// The largest value of the book's domain.
+pub fn largest(seed: u64) -> u8 {
+    FAMILIES[variables(seed) % FAMILIES.len()].0
+}
+
+pub fn book(seed: u64) -> Book {
+    let variables = variables(seed) % FAMILIES.len();
+    let (largest, valuations) = FAMILIES[variables];
+    let drawn = Book {
+        variables,
+        largest,
+        valuations,
+        symbols: array::from_fn(|s| symbol(seed, variables, s)),
+        nodes: array::from_fn(|k| node(seed, k)),
+        root: draw(seed, ROOT, ROOTS) + 1,
+    };
+    if gathering(seed) {
+        gathered(drawn)
+    } else {
+        drawn
+    }
+}
+
 // Every eighth book is one in which partial matches gather exclusions: `open seal`, where `fill` shares open's variable and seal's
-// both. Its words up to the last node; a fourth symbol, which the pattern does not name, is drawn as for any book.
-const GATHERED_WORDS: usize = 64;
-
-const GATHERED: [u32; GATHERED_WORDS] = [
-    7, 2, 1, 2, 3, 4, 9, 100, 1, 1, 1, 0, 0, 0, 0, 0, 1, 2, 1, 2, 0, 0, 0, 0, 2, 2, 1, 2, 0, 0, 0,
-    0, 0, 0, 0, 0, 0, 0, 0, 0, 2, 1, 0, 0, 41, 0, 0, 0, 2, 3, 0, 0, 41, 0, 0, 0, 1, 5, 6, 6, 32,
-    41, 0, 0,
-];
-
-const GATHERED_ROOT: u32 = 7;
-
-const LAST_SYMBOL: usize = NODES - 1;
-
-// By the number of variables: the largest value, how many valuations there are then (at most 100), and what one more of each variable
-// adds to a valuation's number, less one; much where there is no such variable.
-const FAMILY: usize = 6;
-
-const FAMILIES: [u32; 5 * FAMILY] = [
-    2, 1, 999, 999, 999, 999, 9, 10, 0, 999, 999, 999, 9, 100, 9, 0, 999, 999, 2, 27, 8, 2, 0, 999,
-    2, 81, 26, 8, 2, 0,
-];
-
-// The nodes by their kind, a symbol, a sequence, an alternation, `*`, `+`, `?`, and two symbols more: the rules, and the bytes between
-// and behind the parts as they are written.
-const SHAPES: [u32; NODE_KINDS * ENTRY_WORDS] = [
-    2, 0, 0, 0, 41, 0, 0, 0, 1, 0, 0, 0, 32, 41, 0, 0, 10, 0, 0, 0, 124, 41, 0, 0, 7, 0, 0, 0, 41,
-    42, 0, 0, 3, 0, 0, 0, 41, 43, 0, 0, 6, 0, 0, 0, 41, 63, 0, 0, 2, 0, 0, 0, 41, 0, 0, 0, 2, 0, 0,
-    0, 41, 0, 0, 0,
-];
-
-// The last of the kinds that have nodes as parts.
-const OPTION: usize = 5;
-
-pub fn gathering(book: u64) -> bool {
-    draw(book, KIND_OF_BOOK, GATHERING_IN) == 0
+// both. A fourth symbol, which the pattern does not name, is as drawn.
+fn gathered(mut book: Book) -> Book {
+    book.symbols[0] = Some(shared(1, 1));
+    book.symbols[1] = Some(shared(1, 2));
+    book.symbols[2] = Some(shared(2, 2));
+    book.nodes[0] = Node::Symbol(0);
+    book.nodes[1] = Node::Symbol(2);
+    book.nodes[2] = Node::Sequence(0, 1);
+    book.root = 2;
+    book
 }
 
-pub fn variables(book: u64) -> u32 {
-    if gathering(book) {
-        return 2;
+// A symbol with the first variables.
+fn shared(kind: u8, count: u8) -> Symbol {
+    Symbol {
+        kind,
+        count,
+        parameters: array::from_fn(|i| {
+            if i < usize::from(count) {
+                Parameter::Variable(i)
+            } else {
+                Parameter::Ignored
+            }
+        }),
     }
-    draw(book, VARIABLES, VARIABLE_COUNTS)
 }
 
-pub fn family(variables: u32, i: usize) -> u32 {
-    FAMILIES[(variables % VARIABLE_COUNTS) as usize * FAMILY + i % FAMILY]
+fn symbol_count(seed: u64) -> usize {
+    draw(seed, SYMBOL_COUNT, SYMBOLS) + 1
 }
 
-// A word of the book before the events.
-pub fn word(book: u64, w: usize) -> u32 {
-    if w < GATHERED_WORDS && w / ENTRY_WORDS != LAST_SYMBOL && gathering(book) {
-        return GATHERED[w % GATHERED_WORDS];
+fn symbol(seed: u64, variables: usize, s: usize) -> Option<Symbol> {
+    if symbol_count(seed) <= s {
+        return None;
     }
-    if w < SYMBOLS * ENTRY_WORDS {
-        return header(variables(book), w);
-    }
-    if w < NODES * ENTRY_WORDS {
-        return symbol(book, w);
-    }
-    node(book, w % (ENTRIES * ENTRY_WORDS))
+    let at = FIRST_SYMBOL + s % SYMBOLS;
+    let count = small(seed, COUNTS + at, crate::COUNTS);
+    Some(Symbol {
+        kind: small(seed, at * PLACES + KIND, crate::KINDS) % crate::KINDS + 1,
+        count,
+        parameters: array::from_fn(|i| {
+            if i < usize::from(count) {
+                parameter(seed, variables, at * PLACES + ARGUMENT + i)
+            } else {
+                Parameter::Ignored
+            }
+        }),
+    })
 }
 
-fn header(variables: u32, i: usize) -> u32 {
-    if i == cells::COUNT {
-        return variables;
+// A variable, or none, and then it is ignored or a number. No place is taken from a variable, so that no fewer books bind all of theirs.
+fn parameter(seed: u64, variables: usize, place: usize) -> Parameter {
+    let place = place % 64;
+    match draw(seed, place, variables.saturating_add(1)).checked_sub(1) {
+        Some(v) => Parameter::Variable(v),
+        None if draw(seed, FIXED + place, FIXED_IN) != 0 => Parameter::Ignored,
+        None => Parameter::Fixed(small(seed, NUMBERS + place, NUMBER_COUNT)),
     }
-    if cells::LARGEST <= i {
-        return family(variables, i - cells::LARGEST);
-    }
-    ((i % ENTRY_WORDS + ENTRY_WORDS - 1) % ENTRY_WORDS) as u32
 }
 
-fn symbol(book: u64, w: usize) -> u32 {
-    let s = w / ENTRY_WORDS;
-    if (symbol_count(book) as usize) < s {
-        return 0;
+// A node by its kind: the first two are symbols. Of the others the first part is one of the last two nodes, and the second any earlier one.
+fn node(seed: u64, k: usize) -> Node {
+    let k = k % NODES;
+    let at = FIRST_NODE + k;
+    let symbol = draw(seed, FIRSTS + at, symbol_count(seed));
+    if k < 2 {
+        return Node::Symbol(symbol);
     }
-    let count = draw(book, COUNTS + s, crate::COUNTS);
-    let x = crate::shape(book, w, variables(book) % VARIABLE_COUNTS + 1, count);
-    let i = w % ENTRY_WORDS;
-    if x == 0 && cells::PARAMETER <= i && i < cells::PARAMETER + count as usize {
-        return unbound(book, w);
+    let first = k - 1 - draw(seed, FIRSTS + at, 2) % 2;
+    let second = draw(seed, SECONDS + at, k) % ROOTS;
+    match draw(seed, KINDS + at, NODE_KINDS) {
+        1 => Node::Sequence(first, second),
+        2 => Node::Alternation(first, second),
+        3 => Node::Star(first),
+        4 => Node::Plus(first),
+        5 => Node::Optional(first),
+        _ => Node::Symbol(symbol),
     }
-    x
-}
-
-// A place without a variable: ignored, or a number. No place is taken from a variable, so that no fewer books bind all of theirs.
-fn unbound(book: u64, w: usize) -> u32 {
-    if draw(book, FIXED + w % ENTRIES, FIXED_IN) != 0 {
-        return 0;
-    }
-    cells::FIXED + draw(book, NUMBERS + w % ENTRIES, NUMBER_COUNT) % NUMBER_COUNT
-}
-
-fn symbol_count(book: u64) -> u32 {
-    draw(book, SYMBOL_COUNT, SYMBOL_LIMIT) % SYMBOL_LIMIT + 1
-}
-
-// The kind of a node: the first two are symbols.
-fn kind(book: u64, k: usize) -> usize {
-    if k < NODES + 2 {
-        return 0;
-    }
-    draw(book, KINDS + k % ENTRIES, NODE_KINDS as u32) as usize
-}
-
-fn node(book: u64, w: usize) -> u32 {
-    let k = w / ENTRY_WORDS;
-    let i = w % ENTRY_WORDS;
-    let kind = kind(book, k);
-    if i == FIRST {
-        return first(book, k, kind);
-    }
-    if i == SECOND || i == cells::WRITTEN {
-        return second(book, k, kind, i);
-    }
-    SHAPES[kind % NODE_KINDS * ENTRY_WORDS + i]
-}
-
-// A symbol, or one of the last two nodes.
-fn first(book: u64, k: usize, kind: usize) -> u32 {
-    let back = draw(book, FIRSTS + k % ENTRIES, 2) as usize % 2;
-    if kind == 0 || OPTION < kind {
-        return draw(book, FIRSTS + k % ENTRIES, symbol_count(book)) % 4 + 1;
-    }
-    ((k % ENTRIES + ENTRIES - 1 - back) % ENTRIES) as u32
-}
-
-// Any earlier node, or the node itself where it may be repeated; that is not written.
-fn second(book: u64, k: usize, kind: usize, i: usize) -> u32 {
-    let before = (k % ENTRIES + ENTRIES - NODES) % ENTRIES;
-    if kind == 1 || kind == 2 {
-        return draw(book, SECONDS + k % ENTRIES, before as u32) % ROOTS + FIRST_NODE;
-    }
-    if i == SECOND {
-        return (k % ENTRIES) as u32;
-    }
-    0
-}
-
-fn root(book: u64) -> u32 {
-    if gathering(book) {
-        return GATHERED_ROOT;
-    }
-    draw(book, ROOT, ROOTS) % ROOTS + FIRST_NODE + 1
-}
-
-// A word behind the events: the steps of the variables, the last node, and the order.
-pub fn behind(book: u64, i: usize) -> u32 {
-    if i < cells::VARIABLE_LIMIT {
-        return family(variables(book), i + 2);
-    }
-    if i == cells::VARIABLE_LIMIT {
-        return root(book);
-    }
-    if i < ENTRY_WORDS {
-        return 0;
-    }
-    (i % ENTRIES + cells::EVENTS - ENTRY_WORDS) as u32
 }

@@ -1,124 +1,110 @@
-// The text of a book: its variables, its symbols, and its pattern, every node in parentheses. For `bytes`. What does not fit is left
-// out, and the reader then refuses the text.
-use cells::{ENTRIES, NODES, PARAMETER};
+// The text of a book: its variables, its symbols, and its pattern, every node in parentheses. For the programs that read it. What does not
+// fit is left out, and the reader then refuses the text.
+ghost use Rattle.std.specs.Prelude.{◌≤◌, length};
 
-// The lines before the pattern, an entry to each, 20 bytes wide, and then the word before the pattern, are a template: `.` is no byte, `#`
-// stands for the kind, `-` for the space before a parameter if there is one, `=` for the sign before it if it is a number, `_` for the
-// parameter.
-const LINE: usize = 20;
+use std::alloc::{AllocError, Global};
+use trial::{Book, Node, Parameter, SYMBOLS, Symbol, VARIABLES};
 
-const MATCH: usize = 6;
+// The longest text.
+const TEXT_BYTES: usize = 4096;
 
-const TEMPLATE: usize = NODES * LINE + MATCH;
+// The names.
+const VARIABLE_NAMES: [u8; VARIABLES] = *b"abcd";
 
-const HEAD: usize = 7;
+const SYMBOL_NAMES: [u8; SYMBOLS] = *b"pqrs";
 
-const PARAMETER_BYTES: usize = 3;
-
-pub fn text(trial: &[u32], bytes: &mut [u8]) -> usize {
-    let n = lines(trial, bytes);
-    let k = pattern(trial, bytes, n, cells::get(trial, cells::ROOT) as usize);
-    push(bytes, k, b'\n' as u32)
+pub fn text(alloc: Global, book: &Book) -> Result<Vec<u8>, AllocError> {
+    let mut text = Vec::new(alloc);
+    variables(&mut text, book.variables)?;
+    for (name, symbol) in SYMBOL_NAMES.iter().zip(&book.symbols) {
+        if let Some(symbol) = symbol {
+            line(&mut text, *name, symbol)?;
+        }
+    }
+    text.extend_from_slice(b"match ")?;
+    pattern(&mut text, up_to(&book.nodes, book.root))?;
+    text.push(b'\n')?;
+    text.truncate(TEXT_BYTES);
+    Ok(text)
 }
 
-// A byte behind n of the text: how many there are then.
-fn push(bytes: &mut [u8], n: usize, b: u32) -> usize {
-    if b == 0 {
-        return n;
+fn variables(text: &mut Vec<u8>, count: usize) -> Result<(), AllocError> {
+    text.extend_from_slice(b"vars")?;
+    for name in VARIABLE_NAMES.iter().take(count) {
+        text.push(b' ')?;
+        text.push(*name)?;
     }
-    if cells::TEXT_BYTES <= n {
-        return n;
-    }
-    cells::put_byte(bytes, cells::TEXT + n, b);
-    n + 1
+    text.push(b'\n')?;
+    Ok(())
 }
 
-fn lines(trial: &[u32], bytes: &mut [u8]) -> usize {
-    let mut n: usize = 0;
-    let mut w: usize = 0;
-    while w < TEMPLATE {
-        n = push(bytes, n, byte(trial, w / LINE, w % LINE, template(w)));
-        w += 1;
+// The line of a symbol.
+fn line(text: &mut Vec<u8>, name: u8, symbol: &Symbol) -> Result<(), AllocError> {
+    text.extend_from_slice(b"sym ")?;
+    text.push(name)?;
+    text.push(b' ')?;
+    text.push(digit(symbol.kind))?;
+    for parameter in symbol.parameters.iter().take(usize::from(symbol.count)) {
+        text.push(b' ')?;
+        written(text, *parameter)?;
     }
-    n
+    text.push(b'\n')?;
+    Ok(())
 }
 
-fn template(w: usize) -> u32 {
-    let bytes =
-        b"vars...-=_-=_-=_-=_\nsym p #-=_-=_-=_-=_\nsym q #-=_-=_-=_-=_\nsym r #-=_-=_-=_-=_\nsym s #-=_-=_-=_-=_\nmatch ";
-    wide(bytes[w % TEMPLATE])
+fn written(text: &mut Vec<u8>, parameter: Parameter) -> Result<(), AllocError> {
+    match parameter {
+        Parameter::Ignored => text.push(b'_')?,
+        Parameter::Variable(v) => text.push(VARIABLE_NAMES[v % VARIABLES])?,
+        Parameter::Fixed(n) => {
+            text.push(b'=')?;
+            text.push(digit(n))?;
+        }
+    }
+    Ok(())
 }
 
-fn wide(b: u8) -> u32 {
-    b as u32
+fn digit(n: u8) -> u8 {
+    b'0' + n % 10
 }
 
-// A byte of the line of an entry, if there is such a symbol.
-fn byte(trial: &[u32], entry: usize, column: usize, b: u32) -> u32 {
-    let kind = cells::at(trial, entry, cells::KIND);
-    if kind == 0 {
-        return 0;
+// The nodes up to one, which stands last.
+fn up_to(nodes: &[Node], k: usize) -> &[Node]
+    ensures { length result.now ≤ length nodes.now }
+{
+    if k < nodes.len() {
+        &nodes[..k + 1]
+    } else {
+        nodes
     }
-    if b == b'#' as u32 {
-        return b'0' as u32 + kind % 10;
-    }
-    if HEAD <= column && b != b'\n' as u32 {
-        return parameter(trial, entry, (column - HEAD) / PARAMETER_BYTES, b);
-    }
-    if b == b'.' as u32 { 0 } else { b }
 }
 
-fn parameter(trial: &[u32], entry: usize, i: usize, b: u32) -> u32 {
-    let p = cells::at(trial, entry, PARAMETER + i % cells::VARIABLE_LIMIT);
-    if cells::at(trial, entry, cells::COUNT) as usize <= i {
-        return 0;
+// The last of the nodes.
+fn pattern(text: &mut Vec<u8>, nodes: &[Node]) -> Result<(), AllocError> {
+    let Some((node, before)) = nodes.split_last() else {
+        return Ok(());
+    };
+    text.push(b'(')?;
+    match *node {
+        Node::Symbol(s) => text.push(SYMBOL_NAMES[s % SYMBOLS])?,
+        Node::Sequence(a, b) => {
+            pattern(text, up_to(before, a))?;
+            text.push(b' ')?;
+            pattern(text, up_to(before, b))?;
+        }
+        Node::Alternation(a, b) => {
+            pattern(text, up_to(before, a))?;
+            text.push(b'|')?;
+            pattern(text, up_to(before, b))?;
+        }
+        Node::Star(a) | Node::Plus(a) | Node::Optional(a) => pattern(text, up_to(before, a))?,
     }
-    if b == b'-' as u32 {
-        return b' ' as u32;
+    text.push(b')')?;
+    match *node {
+        Node::Star(_) => text.push(b'*')?,
+        Node::Plus(_) => text.push(b'+')?,
+        Node::Optional(_) => text.push(b'?')?,
+        _ => {}
     }
-    if b == b'=' as u32 {
-        return sign(p);
-    }
-    written(p)
-}
-
-fn sign(p: u32) -> u32 {
-    if cells::FIXED <= p { b'=' as u32 } else { 0 }
-}
-
-fn written(p: u32) -> u32 {
-    if cells::FIXED <= p {
-        return b'0' as u32 + (p - cells::FIXED) % 10;
-    }
-    if p == 0 {
-        return b'_' as u32;
-    }
-    b'a' as u32 + p % 8 - 1
-}
-
-// Entry k behind n bytes of the text: how many there are then. A symbol is a letter, and entry 0 is nothing.
-fn pattern(trial: &[u32], bytes: &mut [u8], n: usize, k: usize) -> usize {
-    let a = cells::at(trial, k, cells::FIRST) as usize;
-    let b = cells::at(trial, k, cells::WRITTEN) as usize;
-    if k < NODES {
-        return push(bytes, n, name(k));
-    }
-    if k <= a {
-        return n;
-    }
-    if k <= b {
-        return n;
-    }
-    let mut x = push(bytes, n, b'(' as u32);
-    x = pattern(trial, bytes, x, a);
-    x = push(bytes, x, cells::at(trial, k, cells::BETWEEN));
-    x = pattern(trial, bytes, x, b);
-    push(bytes, x, cells::at(trial, k, cells::BEHIND))
-}
-
-fn name(k: usize) -> u32 {
-    if k == 0 {
-        return 0;
-    }
-    b'p' as u32 - 1 + (k % ENTRIES) as u32
+    Ok(())
 }

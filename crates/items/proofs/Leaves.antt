@@ -1,47 +1,76 @@
--- Results of reading a pattern: the parts of a result that is equal to a plain one, and results with a fault.
-use mathlib.Core.Path.{◌≡◌, sym, ap, ◌∙◌}
-use mathlib.Core.Bool.{Bool, cond, true, false}
-use Prim.Native.Nat.{ℕ, suc}
+-- Results of reading a pattern: what an `Ok` and an `Err` say of the plain result that they stand for; and a byte compared.
+use mathlib.Core.Path.{◌≡◌, refl, sym, ap, ◌∙◌}
+use mathlib.Core.Bool.{Bool, cond, not, true, false}
+use Prim.Native.Nat.{ℕ, suc, ◌<◌}
 use native.Mathlib.Omega.{arith}
 use lib.Dec.{eqb}
-use borrow.Author.Tests.{eq-eqb, ne_eqb}
+use borrow.Author.Tests.{ne_eqb}
+use Rattle.std.specs.Prelude.{Result, Ok, Err, Option, Some, slice_get}
+use Rattle.std.specs.Option.{option_eq}
 use Rattle.form.specs.Text.{Bytes}
-use Rattle.form.specs.Scan.{at, fail}
+use Rattle.form.specs.Scan.{at}
 use Rattle.form.specs.Parse as Parse
-use Rattle.piece.specs.Pieces.{piece_of, no_piece}
+use Rattle.text.proofs.Runs.{peek_law}
+use Rattle.text.specs.declared.Refusal.{Refusal}
+use Rattle.text.specs.Refusals.{refusal_of}
+use Rattle.piece.specs.Pieces.{piece_of}
 use Rattle.items.specs.declared.Parsed.{Parsed}
 use Rattle.items.specs.Results.{parsed_of}
 
-module _ (vars : ℕ → ℕ) (used : ℕ) where
-  module _ {a : Parsed} (x : Parse.Parsed) (e : a ≡ parsed_of vars used x) where
-    pub fault_same : a.fault ≡ x.step.fault
-    unfolding parsed_of
-    fault_same = ap (λ z. z.fault) e
+-- what an `Ok` stands for: no fault, the place, and the fragment of the tree
+pub record Good (vars : ℕ → ℕ) (used : ℕ) (a : Parsed) (x : Parse.Parsed) : Type 0 where
+  pub fault : eqb x.step.fault 0 ≡ true
+  pub place : a.place ≡ x.step.place
+  pub piece : a.piece ≡ piece_of vars x.tree (suc used)
 
-    pub place_same : a.place ≡ x.step.place
-    unfolding parsed_of
-    place_same = ap (λ z. z.place) e
+-- what an `Err` stands for
+pub record Bad (e : Refusal) (x : Parse.Parsed) : Type 0 where
+  pub fault : eqb x.step.fault 0 ≡ false
+  pub refusal : e ≡ refusal_of x.step.fault x.step.place
 
-    -- the test of the fault
-    pub good : a.fault ≡ 0 → eqb x.step.fault 0 ≡ true
-    good h = eq-eqb _ 0 (sym fault_same ∙ h)
-
-    pub bad : (a.fault ≡ 0 → ⊥) → eqb x.step.fault 0 ≡ false
-    bad h = ne_eqb _ 0 (λ k. h (fault_same ∙ k))
-
-    -- without a fault the fragment is the tree's
-    pub piece_same : a.fault ≡ 0 → a.piece ≡ piece_of vars x.tree (suc used)
-    unfolding parsed_of
-    piece_same h = ap (λ z. z.piece) e ∙ ap (λ b. cond b (piece_of vars x.tree (suc used)) no_piece) (good h)
-
-  pub failed_parsed : (n p : ℕ) → (n ≡ 0 → ⊥) → record { fault = n; place = p; piece = no_piece } ≡ parsed_of vars used (Parse.failed (fail n p))
+module _ (vars : ℕ → ℕ) (used : ℕ) (x : Parse.Parsed) where
+  pub good : {a : Parsed} → Ok a ≡ parsed_of vars used x → Good vars used a x
   unfolding parsed_of
-  failed_parsed n p h = rw (ne_eqb n 0 h)
-
-  pub unfit_parsed : (s : Bytes) (q : ℕ)
-      → record { fault = (Parse.unfit s q).fault; place = q; piece = no_piece } ≡ parsed_of vars used (Parse.failed (Parse.unfit s q))
-  unfit_parsed s q = failed_parsed _ q (go (eqb (at s q) 256))
+  good {a} h = by (eqb x.step.fault 0) refl
     where
-      go : (b : Bool) → ◌≡◌ {A = ℕ} (cond b 2 6) 0 → ⊥
-      go true = omega arith
-      go false = omega arith
+      by : (b : Bool) → eqb x.step.fault 0 ≡ b → Good vars used a x
+      by true k =
+          let i = rw k at h in
+          let e : a ≡ record { place = x.step.place; piece = piece_of vars x.tree (suc used) } = cc in
+          record { fault = k; place = ap (λ z. z.place) e; piece = ap (λ z. z.piece) e }
+      by false k = let i = rw k at h in absurd (cc)
+
+  pub bad : {e : Refusal} → Err e ≡ parsed_of vars used x → Bad e x
+  unfolding parsed_of
+  bad {e} h = by (eqb x.step.fault 0) refl
+    where
+      by : (b : Bool) → eqb x.step.fault 0 ≡ b → Bad e x
+      by true k = let i = rw k at h in absurd (cc)
+      by false k = let i = rw k at h in record { fault = k; refusal = cc }
+
+  pub bad_parsed : {e : Refusal} → Bad e x → Err e ≡ parsed_of vars used x
+  unfolding parsed_of
+  bad_parsed b = rw (b.fault, b.refusal)
+
+-- a token that cannot stand
+pub unfit_parsed : (vars : ℕ → ℕ) (used : ℕ) (s : Bytes) (q : ℕ)
+    → ◌≡◌ {A = Result Parsed Refusal} (Err (refusal_of (Parse.unfit s q).fault q)) (parsed_of vars used (Parse.failed (Parse.unfit s q)))
+unfolding parsed_of
+unfit_parsed vars used s q = rw (ne_eqb _ 0 (go (eqb (at s q) 256)))
+  where
+    go : (b : Bool) → ◌≡◌ {A = ℕ} (cond b 2 6) 0 → ⊥
+    go true = omega arith
+    go false = omega arith
+
+-- whether the byte b stands at q, by a comparison of what is read there
+pub stands : (s : Bytes) (q b : ℕ) → b < 256 → {o : Option ℕ} {t : Bool} → o ≡ slice_get s q → t ≡ option_eq eqb o (Some b) → eqb (at s q) b ≡ t
+stands s q b h r e = sym (peek_law s q b (ne_eqb 256 b (omega arith))) ∙ sym (e ∙ ap (λ o. option_eq eqb o (Some b)) r)
+
+-- the same where `!=` has compared, with the answer u
+pub differs : (s : Bytes) (q b : ℕ) → b < 256 → {o : Option ℕ} {t u : Bool} → o ≡ slice_get s q → t ≡ not (option_eq eqb o (Some b)) → t ≡ u
+    → eqb (at s q) b ≡ not u
+differs s q b h {o} {t} {u} r e f = stands s q b h r (by (option_eq eqb o (Some b)) (sym f ∙ e))
+  where
+    by : (v : Bool) → u ≡ not v → not u ≡ v
+    by true i = rw i
+    by false i = rw i

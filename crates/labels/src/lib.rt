@@ -1,7 +1,7 @@
 // The new label of one position after an event, and all that are held with it, or no room. For `advance`, which goes over the positions.
 #![tactic(auto)]
 
-ghost use Rattle.std.specs.Prelude.{◌≡◌, true, not, map, ℕ, ◌≤◌, ◌<◌, eqb, length, take, get_or};
+ghost use Rattle.std.specs.Prelude.{◌≡◌, true, not, map, ℕ, ◌≤◌, ◌<◌, eqb, take, get_or, IfSome};
 ghost use Rattle.laws.specs.Order.{ascending};
 ghost use Rattle.laws.specs.Sets.{Grown};
 ghost use Rattle.pattern.specs.Positions.{occurrence_limit};
@@ -15,7 +15,7 @@ ghost use Rattle.packed.specs.Held.{held_in, held_grown};
 
 use constraint::Constraints;
 use demand::Constraint;
-use packed::{CAPACITY, NO_ROOM, Words};
+use packed::{CAPACITY, Words};
 
 // What one position has: its number, whether it begins, what follows it, and its symbol's constraint.
 #[derive(Clone, Copy)]
@@ -23,10 +23,10 @@ pub struct Position {
     pub number: usize,
     pub begins: bool,
     pub follows: u32,
-    pub constraint: Constraint,
+    pub constraint: Option<Constraint>,
 }
 
-// The new label of one position in `words`, or NO_ROOM. `a` and `b` are for the work between.
+// The new label of one position in `words`, or None where there is no room. `a` and `b` are for the work between.
 fn new_label(
     held: &Words,
     at: &[u32; CAPACITY],
@@ -38,56 +38,46 @@ fn new_label(
     words: &mut Words,
     a: &mut Words,
     b: &mut Words,
-) -> usize
-    requires { (n ≤ held_limit) × (count ≤ symbol_limit) × (q.number ≤ occurrence_limit) × Ready q.constraint
-        × ((i : ℕ) → i < count → Ready (get_or cs i no_constraint))
+) -> Option<usize>
+    requires { (n ≤ held_limit) × (count ≤ symbol_limit) × (q.number ≤ occurrence_limit) × IfSome q.constraint Ready
+        × ((i : ℕ) → i < count → IfSome (get_or cs i no_constraint) Ready)
         × (ascending compare_disjuncts (pick (eqb q.number) (take n at.now) (take n (disjuncts_in held.now))) ≡ true) }
-    ensures { grown_in result words.new ≡ labelled (view_constraint q.constraint) (map view_constraint (take count cs)) q.begins
+    ensures few { IfSome result (λ k. k ≤ held_limit) }
+    ensures set { grown_in result words.new ≡ labelled (view_constraint q.constraint) (map view_constraint (take count cs)) q.begins
         (not (eqb q.follows 0)) q.number (take n at.now) (take n masks.now) (take n (disjuncts_in held.now)) }
 {
-    let p = q.number;
-    let c = q.constraint;
-    let m = step::step_set(held, masks, n, p, q.begins, c, words);
-    if CAPACITY < m {
-        return NO_ROOM;
-    }
-    let k = skip::label(held, at, n, p as u32, a);
-    let j = skip::skip_through(a, b, k, cs, count);
-    if CAPACITY < j {
-        return NO_ROOM;
-    }
+    let m = step::step_set(held, masks, n, q.number, q.begins, q.constraint, words)?;
+    let k = skip::label(held, at, n, q.number as u32, a);
+    let j = skip::skip_through(a, b, k, cs, count)?;
     if q.follows == 0 {
-        return 0;
+        return Some(0);
     }
     sets::join(words, m, a, j)
 }
 
-// The label of position p behind what is held so far, or NO_ROOM.
+// The label of position p behind what is held so far, or None where there is no room.
 fn append_label(
     label: &Words,
     m: usize,
     p: u32,
     next: &mut Words,
-    next_at: &mut [u32],
+    next_at: &mut [u32; CAPACITY],
     total: usize,
-) -> usize
-    requires { (m ≤ held_limit) × (total ≤ held_limit) × (length next_at.old ≡ held_limit) }
-    ensures { held_grown result next_at.new next.new ≡ appended p
+) -> Option<usize>
+    requires { (m ≤ held_limit) × (total ≤ held_limit) }
+    ensures few { IfSome result (λ k. k ≤ held_limit) }
+    ensures held { held_grown result next_at.new next.new ≡ appended p
         (held_in total next_at.old next.old) (Grown.grown (take m (disjuncts_in label.now))) }
 {
     if CAPACITY < total + m {
-        return NO_ROOM;
+        return None;
     }
     sets::append(label, m, next, total);
-    let mut i: usize = 0;
-    while i < m {
-        next_at[total + i] = p;
-        i += 1;
-    }
-    total + m
+    next_at[total..total + m].fill(p);
+    Some(total + m)
 }
 
-// The new label of one position behind what is held so far, or NO_ROOM.
+// The new label of one position behind what is held so far, or None where there is no room.
 pub fn add_label(
     held: &Words,
     at: &[u32; CAPACITY],
@@ -102,19 +92,16 @@ pub fn add_label(
     next: &mut Words,
     next_at: &mut [u32; CAPACITY],
     total: usize,
-) -> usize
-    requires { (n ≤ held_limit) × (count ≤ symbol_limit) × (q.number ≤ occurrence_limit) × Ready q.constraint
-        × ((i : ℕ) → i < count → Ready (get_or cs i no_constraint))
+) -> Option<usize>
+    requires { (n ≤ held_limit) × (count ≤ symbol_limit) × (q.number ≤ occurrence_limit) × IfSome q.constraint Ready
+        × ((i : ℕ) → i < count → IfSome (get_or cs i no_constraint) Ready)
         × (ascending compare_disjuncts (pick (eqb q.number) (take n at.now) (take n (disjuncts_in held.now))) ≡ true) × (total ≤ held_limit) }
-    ensures { held_grown result next_at.new next.new ≡ appended q.number
+    ensures few { IfSome result (λ k. k ≤ held_limit) }
+    ensures held { held_grown result next_at.new next.new ≡ appended q.number
         (held_in total next_at.old next.old)
         (labelled (view_constraint q.constraint) (map view_constraint (take count cs)) q.begins
         (not (eqb q.follows 0)) q.number (take n at.now) (take n masks.now) (take n (disjuncts_in held.now))) }
 {
-    let p = q.number as u32;
-    let m = new_label(held, at, masks, n, q, cs, count, words, a, b);
-    if CAPACITY < m {
-        return NO_ROOM;
-    }
-    append_label(words, m, p, next, next_at, total)
+    let m = new_label(held, at, masks, n, q, cs, count, words, a, b)?;
+    append_label(words, m, q.number as u32, next, next_at, total)
 }

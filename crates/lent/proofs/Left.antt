@@ -6,8 +6,7 @@ use Prim.Native.Nat.{ℕ, ◌≤◌}
 use native.Mathlib.Omega.{arith}
 use borrow.Author.Tests.{eq-eqb, ne_eqb, eqb-false}
 use lib.Dec.{eqb}
-use lib.ListN.{length, get_or, set, replicate}
-use Rattle.laws.proofs.Arrays.{by_index}
+use lib.ListN.{length, get_or, replicate}
 use Rattle.form.specs.Text.{Bytes, is_bytes}
 use Rattle.book.specs.Answers as Reading
 use Rattle.book.specs.Books.{reading}
@@ -25,10 +24,6 @@ use Rattle.blocks.specs.TallyBlock.{tally_in, tally_words}
 use Rattle.blocks.specs.Lent.{read_left, event_left}
 use Rattle.lent_runs.proofs.Accepted.{few_before, canonical_after}
 use Rattle.lent_runs.proofs.Checks.{other_state}
-
--- three words written one after the other
-pub three_set : (w : List ℕ) (a b c : ℕ) → length w ≡ 3 → set (set (set w 0 a) 1 b) 2 c ≡ a ∷ b ∷ c ∷ []
-three_set w a b c h = ap (λ l. set (set (set l 0 a) 1 b) 2 c) (by_index 0 w 3 h)
 
 module _ (text : Bytes) (r : Reading) (same : r ≡ reading text) where
   pub read_accepted : (n p : ℕ) (w : List ℕ) → n ≡ Reading.number_of r.answer → p ≡ Reading.place_of r.answer → n ≡ 0 → w ≡ book_words r.book

@@ -4,42 +4,19 @@
 // and Rust and a caller in C has to (bindings/c/watch.h).
 #![tactic(auto)]
 
-ghost use Rattle.std.specs.Prelude.{◌≡◌, true, length};
+ghost use Rattle.std.specs.Prelude.{◌≡◌, true};
 ghost use Rattle.form.specs.Text.{is_bytes};
 ghost use Rattle.book.specs.Books.{name_place};
 ghost use Rattle.calls.specs.Calls.{fresh_state};
 ghost use Rattle.blocks.specs.StateBlock.{state_words};
-ghost use Rattle.blocks.specs.TallyBlock.{tally_size, tally_in, tally_words};
 ghost use Rattle.blocks.specs.Lent.{read_left, event_left};
-
-use tally::Tally;
 
 // The words of a book, a state and a tally: a caller keeps so many for each.
 pub const BOOK_WORDS: usize = book_block::WORDS;
 
 pub const STATE_WORDS: usize = state_block::WORDS;
 
-pub const TALLY_WORDS: usize = 3;
-
-fn tally_in(words: &[u64]) -> Tally
-    requires { length words.now ≡ tally_size }
-    ensures { result ≡ tally_in words.now }
-{
-    Tally {
-        accepted: words[0],
-        refused: words[1],
-        rows: words[2],
-    }
-}
-
-fn put_tally(words: &mut [u64], t: Tally)
-    requires { length words.old ≡ tally_size }
-    ensures { words.new ≡ tally_words t }
-{
-    words[0] = t.accepted;
-    words[1] = t.refused;
-    words[2] = t.rows;
-}
+pub const TALLY_WORDS: usize = tally_block::WORDS;
 
 // A text read. Handed back is the number of the answer, 0 to 8; left are the book's words, the place beside the answer (0 where the text is accepted),
 // and how many positions begin and how many end a word. A refused text leaves a book of zeros and no counts.
@@ -55,17 +32,15 @@ pub fn watch_read(
         × (is_bytes text.now ≡ true) }
 {
     let r = watch::read(text);
-    let a = r.answer;
-    let n = book::number_of(a);
-    *place = book::place_of(a);
+    let n = book::number_of(r.answer);
+    *place = book::place_of(r.answer);
     *begins = r.begin_count as usize;
     *ends = r.end_count as usize;
     if n == 0 {
-        let b = r.book;
-        book_block::put_book(book, b);
+        book_block::put_book(book, r.book);
         return n;
     }
-    blocks::clear(book);
+    book.fill(0);
     n
 }
 
@@ -104,16 +79,13 @@ pub fn watch_event(
 {
     let b = book_block::book_in(book);
     let s = state_block::state_in(state);
-    let t = tally_in(tally);
+    let t = tally_block::tally_in(tally);
     let r = watch::event(b, s, bytes, rows, place, t);
-    let a = r.answer;
-    let n = watch::number_of(a);
-    let next = r.state;
-    let after = r.tally;
-    put_tally(tally, after);
+    let n = watch::number_of(r.answer);
+    tally_block::put_tally(tally, r.tally);
     *count = r.rows;
     if n == 0 {
-        state_block::store(state, s.count, next);
+        state_block::store(state, s.count, r.state);
     }
     n
 }

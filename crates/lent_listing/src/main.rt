@@ -3,65 +3,36 @@
 #![tactic(auto)]
 
 use lent::{BOOK_WORDS, STATE_WORDS, TALLY_WORDS};
+use output::{Listing, Rows};
 use std::io::{Read, Write};
 use std::{fs, io};
 
-// "Event record, 20 bytes"; "variable count (byte 4)" of a row.
-const RECORD: usize = 20;
-
-const VARIABLE_COUNT: usize = 4;
-
-// What is lent for rows, for a text and for what is gathered of the output.
+// What is lent for rows, and for a text.
 const BUFFER: usize = 65536;
 
-fn wide(x: u8) -> usize {
-    x as usize
-}
-
-// The variable count of the first row.
-fn variables(rows: &[u8]) -> usize {
-    if VARIABLE_COUNT < rows.len() {
-        return wide(rows[VARIABLE_COUNT]);
-    }
-    0
-}
-
-// All records of a reader, a last short one too. A proved loop has to end, and nothing says that the input does, so it also ends at the
-// largest 64-bit number of a record.
-fn list<E: Read, W: Write>(
+// The records of a reader, from a fresh state on.
+fn list<E: Read, W: Write + Drop>(
     book: &[u32; BOOK_WORDS],
     events: &mut E,
-    writer: &mut W,
+    writer: W,
 ) -> io::Result<()> {
+    let mut buffer = [0u8; BUFFER];
     let mut state = [0u32; STATE_WORDS];
     let mut tally = [0u64; TALLY_WORDS];
-    let mut bytes_space = [0u8; RECORD];
-    let mut rows_space = [0u8; BUFFER];
-    let mut out_space = [0u8; BUFFER];
-    let bytes: &mut [u8] = &mut bytes_space;
-    let rows: &mut [u8] = &mut rows_space;
-    let out: &mut [u8] = &mut out_space;
     lent::watch_fresh(&mut state);
-    let mut count: usize = 0;
-    let mut number: u64 = 0;
-    let mut at: usize = 0;
-    let mut size = input::fill(events, bytes)?;
-    while number < u64::MAX && 0 < size {
-        let answer = lent::watch_event(
-            book,
-            &mut state,
-            &bytes[..size],
-            rows,
-            0,
-            &mut tally,
-            &mut count,
-        );
-        number += 1;
-        at = output::put_line(writer, out, at, number, answer, count)?;
-        at = output::put_rows(writer, out, at, rows, count, variables(rows))?;
-        size = output::next_record(events, bytes, writer, out, at)?;
-    }
-    output::flush(writer, out, at)
+    Listing::new(writer).list(
+        events,
+        0,
+        &mut buffer,
+        Rows::OfOneBook,
+        |bytes: &[u8], rows: &mut [u8]| {
+            let mut count = 0;
+            let answer = lent::watch_event(
+                book, &mut state, bytes, rows, 0, &mut tally, &mut count,
+            );
+            (answer, count)
+        },
+    )
 }
 
 fn main(rt: HostRuntime) -> io::Result<()> {
@@ -75,8 +46,7 @@ fn main(rt: HostRuntime) -> io::Result<()> {
     let number = lent::watch_read(&text[..n], &mut book, &mut place, &mut begins, &mut ends);
     let mut writer = io::writer(&rt);
     if number == 0 {
-        let mut events = rt.reader();
-        return list(&book, &mut events, &mut writer);
+        return list(&book, &mut rt.reader(), writer);
     }
     output::print_refused(&mut writer, number, place)
 }

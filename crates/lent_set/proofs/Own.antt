@@ -4,14 +4,17 @@ use mathlib.Core.Path.{◌≡◌, sym, ap, ap₂, ◌∙◌}
 use mathlib.Core.List.{List}
 use Prim.Native.Nat.{ℕ, suc, ◌*◌, ◌≤◌}
 use native.Mathlib.Omega.{arith}
+use Rattle.std.proofs.Common.{Result, Ok, Err, IfOk, IfErr}
 use lib.ListN.{length}
 use Rattle.laws.specs.Checks.{first_failing}
 use Rattle.laws.specs.Lists.{gather}
 use Rattle.laws.proofs.Fronts.{gather_length}
+use Rattle.meaning.specs.Rows.{row_limit}
 use Rattle.form.specs.Text.{Bytes}
 use Rattle.record.specs.Records.{event_in}
 use Rattle.row.proofs.RowBytes.{bytes_length}
 use Rattle.calls.specs.Answers.{number_of}
+use Rattle.calls.specs.declared.EventAnswer.{EventAnswer}
 use Rattle.calls.specs.declared.EventAnswer.TheVariants.{Accepted}
 use Rattle.calls.specs.Calls.{decisions, rows_by, state_by}
 use Rattle.blocks.specs.BookBlock.{book_size, book_in}
@@ -43,6 +46,17 @@ module _ (w s : List ℕ) (bytes : Bytes) (k : ℕ) where
     pub own_rows : length (rows_by (book_in bw) (state_in sw) (event_in bytes)) ≡ length (part_rows (event_in bytes) (book_part w s bytes k))
     unfolding part_rows book_part
     own_rows = ap₂ (λ x y. length (rows_by (book_in x) (state_in y) (event_in bytes))) book state
+
+    -- what the book answers to them is what is told of the k-th part
+    pub own_judged : book_size * suc k ≤ length w → state_size * suc k ≤ length s → (x : Result ℕ EventAnswer)
+        → IfOk x (λ n. (number_of (first_failing Accepted (decisions (book_in bw) (state_in sw) bytes)) ≡ 0)
+        × (n ≡ length (rows_by (book_in bw) (state_in sw) (event_in bytes))) × (n ≤ row_limit))
+        → IfErr x (λ a. (number_of a ≡ number_of (first_failing Accepted (decisions (book_in bw) (state_in sw) bytes))) × (number_of a ≡ 0 → ⊥))
+        → IfOk x (λ n. (first_failing 0 (book_part w s bytes k).checks ≡ 0)
+        × (n ≡ length (part_rows (event_in bytes) (book_part w s bytes k))) × (n ≤ row_limit))
+        × IfErr x (λ a. (number_of a ≡ first_failing 0 (book_part w s bytes k).checks) × (number_of a ≡ 0 → ⊥))
+    own_judged h g (Ok n) passed refused = ((sym (own_number h g) ∙ passed.0, passed.1 ∙ own_rows, passed.2), refused)
+    own_judged h g (Err a) passed refused = (passed, (refused.0 ∙ own_number h g, refused.1))
 
     pub own_bytes : {five : ℕ} → five ≡ k
         → gather (row_with (suc (state_in sw).number) (book_in bw).variables five 0) (rows_by (book_in bw) (state_in sw) (event_in bytes))

@@ -2,7 +2,7 @@
 // count. An event that one book would refuse is taken by none. No call has a `requires`, and none keeps anything; see the crate lent for what is lent.
 #![tactic(auto)]
 
-ghost use Rattle.std.specs.Prelude.{◌≡◌, true, ◌+◌, ◌*◌, ◌≤◌, length};
+ghost use Rattle.std.specs.Prelude.{◌≡◌, true, ◌+◌, ◌*◌, ◌≤◌, length, IfOk, IfErr};
 ghost use Rattle.laws.specs.Checks.{first_failing};
 ghost use Rattle.laws.specs.Lists.{gather, numbers};
 ghost use Rattle.laws.specs.Parts.{splice, front};
@@ -10,13 +10,14 @@ ghost use Rattle.meaning.specs.Rows.{row_limit};
 ghost use Rattle.form.specs.Text.{is_bytes};
 ghost use Rattle.record.specs.Records.{event_in};
 ghost use Rattle.row.specs.RowBytes.{row_size};
+ghost use Rattle.calls.specs.Answers.{number_of};
 ghost use Rattle.calls.specs.Calls.{fresh_state};
 ghost use Rattle.blocks.specs.StateBlock.{state_size, state_words};
 ghost use Rattle.parts.specs.Parts.{part_rows, part_bytes, rows_together, number_for};
 ghost use Rattle.parts.specs.SetBlock.{set_limit, bad_count, count_checks, book_part, parts_in, states_after, set_left, set_fresh};
 
+use calls::EventAnswer;
 pub use lent::{BOOK_WORDS, STATE_WORDS, TALLY_WORDS};
-use part::Judgement;
 
 // The most books of a set.
 pub const BOOKS: usize = 8;
@@ -33,60 +34,49 @@ fn bad_count(count: usize) -> bool
     count == 0 || BOOKS < count
 }
 
-// What book number k would answer, the space for its rows apart; unsound where its words or its state are not wholly lent.
-fn judge_at(books: &[u32], states: &[u32], k: usize, bytes: &[u8]) -> Judgement
+// What book number k would answer, the space for its rows apart: how many rows there are, or its refusal; unsound where its words or its state are not
+// wholly lent.
+fn judge_at(books: &[u32], states: &[u32], k: usize, bytes: &[u8]) -> Result<usize, EventAnswer>
     requires { k ≤ set_limit }
-    ensures { (result.number ≡ first_failing 0 (book_part books.now states.now bytes.now k).checks)
-        × (result.number ≡ 0
-        → (result.rows ≡ length (part_rows (event_in bytes.now) (book_part books.now states.now bytes.now k)))
-        × (result.rows ≤ row_limit)) }
+    ensures passed { IfOk result (λ n. (first_failing 0 (book_part books.now states.now bytes.now k).checks ≡ 0)
+        × (n ≡ length (part_rows (event_in bytes.now) (book_part books.now states.now bytes.now k)))
+        × (n ≤ row_limit)) }
+    ensures refused { IfErr result (λ a. (number_of a ≡ first_failing 0 (book_part books.now states.now bytes.now k).checks)
+        × (number_of a ≡ 0 → ⊥)) }
 {
     let at = k * BOOK_WORDS;
     let end = at + BOOK_WORDS;
     let from = k * STATE_WORDS;
     let upto = from + STATE_WORDS;
-    if books.len() < end {
-        return Judgement {
-            number: UNSOUND,
-            rows: 0,
-        };
-    }
-    if states.len() < upto {
-        return Judgement {
-            number: UNSOUND,
-            rows: 0,
-        };
+    if books.len() < end || states.len() < upto {
+        return Err(EventAnswer::Unsound);
     }
     part::judge(&books[at..end], &states[from..upto], bytes)
 }
 
-// What the lowest-numbered refusing book answers, the space for rows apart; 0 where none refuses, and then how many rows there are together.
-fn judge_all(books: &[u32], states: &[u32], count: usize, bytes: &[u8]) -> Judgement
+// What the books answer, the space for rows apart: how many rows there are together, or the refusal of the lowest-numbered that refuses.
+fn judge_all(
+    books: &[u32],
+    states: &[u32],
+    count: usize,
+    bytes: &[u8],
+) -> Result<usize, EventAnswer>
     requires { count ≤ set_limit }
-    ensures { (result.number
-        ≡ first_failing 0 (gather (λ p. p.checks) (parts_in books.now states.now bytes.now count)))
-        × (result.number ≡ 0
-        → (result.rows ≡ rows_together (event_in bytes.now) (parts_in books.now states.now bytes.now count))
-        × (result.rows ≤ set_limit * row_limit)) }
+    ensures passed { IfOk result (λ n. (first_failing 0 (gather (λ p. p.checks) (parts_in books.now states.now bytes.now count)) ≡ 0)
+        × (n ≡ rows_together (event_in bytes.now) (parts_in books.now states.now bytes.now count))
+        × (n ≤ set_limit * row_limit)) }
+    ensures refused { IfErr result (λ a. (number_of a ≡ first_failing 0 (gather (λ p. p.checks) (parts_in books.now states.now bytes.now count)))
+        × (number_of a ≡ 0 → ⊥)) }
 {
-    let mut rows: usize = 0;
-    let mut k: usize = 0;
-    while k < count {
-        let j = judge_at(books, states, k, bytes);
-        if j.number == 0 {
-            rows += j.rows;
-            k += 1;
-        } else {
-            return j;
-        }
+    let mut rows = 0;
+    for k in 0..count {
+        rows += judge_at(books, states, k, bytes)?;
     }
-    Judgement {
-        number: 0,
-        rows: rows,
-    }
+    Ok(rows)
 }
 
-// What the set answers: the count first, then the books in their order, then the space for the rows of all of them together.
+// What the set answers: the count first, then the books in their order, then the space for the rows of all of them together. How many rows there are, or
+// the number of the refusal: 14 is none of an event's answers.
 fn judge_set(
     books: &[u32],
     states: &[u32],
@@ -94,31 +84,29 @@ fn judge_set(
     bytes: &[u8],
     rows: &[u8],
     place: usize,
-) -> Judgement
-    ensures { (result.number
-        ≡ number_for (count_checks count) (parts_in books.now states.now bytes.now count) (event_in bytes.now)
+) -> Result<usize, usize>
+    ensures passed { IfOk result (λ n. (number_for (count_checks count) (parts_in books.now states.now bytes.now count) (event_in bytes.now)
+        rows.now place ≡ 0)
+        × (count ≤ set_limit)
+        × (n ≡ rows_together (event_in bytes.now) (parts_in books.now states.now bytes.now count))
+        × (n ≤ set_limit * row_limit)) }
+    ensures refused { IfErr result (λ m. (m ≡ number_for (count_checks count) (parts_in books.now states.now bytes.now count) (event_in bytes.now)
         rows.now place)
-        × (result.number ≡ 0 → (count ≤ set_limit)
-        × (result.rows ≡ rows_together (event_in bytes.now) (parts_in books.now states.now bytes.now count))
-        × (result.rows ≤ set_limit * row_limit)) }
+        × (m ≡ 0 → ⊥)) }
 {
     if bad_count(count) {
-        return Judgement {
-            number: BAD_COUNT,
-            rows: 0,
-        };
+        return Err(BAD_COUNT);
     }
-    let j = judge_all(books, states, count, bytes);
-    if j.number == 0 {
-        if outcome::fits(rows.len(), place, j.rows) {
-            return j;
+    match judge_all(books, states, count, bytes) {
+        Ok(n) => {
+            if outcome::fits(rows.len(), place, n) {
+                Ok(n)
+            } else {
+                Err(NO_SPACE)
+            }
         }
-        return Judgement {
-            number: NO_SPACE,
-            rows: 0,
-        };
+        Err(answer) => Err(answers::number_of(answer)),
     }
-    j
 }
 
 // The event taken by every book, none of which refuses it: rows in book order from the place on, and each state stored in its own block.
@@ -139,13 +127,12 @@ fn advance_all(
         × (states.new ≡ states_after books.now states.old bytes.now count) }
 {
     let mut next = place;
-    let mut k: usize = 0;
-    while k < count {
+    for k in 0..count {
         let at = k * BOOK_WORDS;
         let end = at + BOOK_WORDS;
         let from = k * STATE_WORDS;
         let upto = from + STATE_WORDS;
-        let byte5 = (k % 256) as u8;
+        let byte5 = k as u8;
         let n = part::advance(
             &books[at..end],
             &mut states[from..upto],
@@ -156,7 +143,6 @@ fn advance_all(
             0,
         );
         next += n * row::ROW;
-        k += 1;
     }
 }
 
@@ -165,12 +151,10 @@ fn fresh_all(states: &mut [u32], count: usize)
     requires { (count ≤ set_limit) × (state_size * count ≤ length states.old) }
     ensures { states.new ≡ front (gather (λ k. state_words fresh_state) (numbers 0 count)) states.old }
 {
-    let mut k: usize = 0;
-    while k < count {
+    for k in 0..count {
         let from = k * STATE_WORDS;
         let upto = from + STATE_WORDS;
         state_block::put_fresh(&mut states[from..upto]);
-        k += 1;
     }
 }
 
@@ -206,14 +190,17 @@ pub fn watch_set_event(
         × (is_bytes bytes.now ≡ true) }
 {
     let t = tally_block::tally_in(tally);
-    let j = judge_set(books, states, count, bytes, rows, place);
-    if j.number == 0 {
-        advance_all(books, states, count, bytes, rows, place);
-        tally_block::put_tally(tally, t.added(1, 0, j.rows as u64));
-        *row_count = j.rows;
-        return 0;
+    match judge_set(books, states, count, bytes, rows, place) {
+        Ok(n) => {
+            advance_all(books, states, count, bytes, rows, place);
+            tally_block::put_tally(tally, t.added(1, 0, n as u64));
+            *row_count = n;
+            0
+        }
+        Err(number) => {
+            tally_block::put_tally(tally, t.added(0, 1, 0));
+            *row_count = 0;
+            number
+        }
     }
-    tally_block::put_tally(tally, t.added(0, 1, 0));
-    *row_count = 0;
-    j.number
 }

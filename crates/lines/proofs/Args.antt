@@ -2,14 +2,20 @@
 -- kind step by step, and the symbol as the code builds it.
 use mathlib.Core.Path.{◌≡◌, refl, sym, ap, ap₂, ◌∙◌}
 use mathlib.Core.Bool.{Bool, true, false, cond, not, ◌&&◌}
-use mathlib.Core.List.{List, [], ◌∷◌, ◌++◌, map}
+use mathlib.Core.List.{List, [], ◌∷◌, ◌++◌}
 use Prim.Native.Nat.{ℕ, zero, suc, ◌+◌, ◌-◌, ◌≤◌, ◌<◌, zero-le, suc-le-suc}
 use native.Mathlib.Omega.{arith}
-use borrow.Author.Tests.{leb-true, eq-eqb, ne_eqb}
+use mathlib.Core.Logic.{◌⊎◌, inl, inr}
+use borrow.Author.Tests.{leb-true, eqb-true, eq-eqb, ne_eqb}
 use lib.Dec.{leb, eqb}
-use lib.ListN.{length, take, drop, set, length-append}
+use lib.ListN.{length, set, length-append}
+use Rattle.std.specs.Prelude.{Option, Some, None, Result, Ok, Err, slice_get}
+use Rattle.std.specs.Option.{option_eq}
+use Rattle.std.proofs.lemmas.Bool.{eqb-false}
+use Rattle.text.proofs.Runs.{peek_law}
+use Rattle.text.proofs.Steps.{brought_ok, brought_err, brought_other}
 use Rattle.laws.specs.Lists.{all}
-use Rattle.laws.proofs.Lists.{all_append, and_true_split, either}
+use Rattle.laws.proofs.Lists.{either}
 use Rattle.form.specs.Text.{Bytes, Span, is_digit, fixed_sign}
 use Rattle.form.specs.Form.{same_word}
 use Rattle.form.specs.Scan as Scan
@@ -22,13 +28,12 @@ use Rattle.meaning.specs.Meaning.{no_symbol}
 use Rattle.parsing.proofs.Scans.{inside_of}
 use Rattle.parsing.proofs.Words.{Gap, gap, byte_inside}
 use Rattle.parsing.proofs.Numerals.{number_found}
-use Rattle.text.specs.Steps.{step_of}
-use Rattle.text.specs.declared.Step.{Step}
-use Rattle.table.specs.Tables.{parameter_of, symbol_of, name_of, table_of, view_symbol, view_table, span_of, inside, Ready}
+use Rattle.text.specs.declared.Refusal.{Refusal}
+use Rattle.table.specs.Tables.{parameter_of, symbol_of, name_of, table_of, view_symbol, view_table, Ready}
 use Rattle.table.specs.declared.Parameter as Tables
 use Rattle.table.specs.declared.Symbol.{Symbol}
 use Rattle.table.specs.declared.Table.{Table}
-use Rattle.table.proofs.Codes.{names_variables, view_symbol_law, symbol_more}
+use Rattle.table.proofs.Codes.{view_symbol_law, symbol_more}
 use Rattle.lines.specs.Results.{arguments_read, symbol_read}
 use Rattle.lines.specs.declared.ArgumentsRead.{ArgumentsRead}
 
@@ -73,19 +78,6 @@ module _ {s : Bytes} {t : Table} (r : Ready s t) where
   pub variables_length : t.variables ≡ length (view_table t).variables
   unfolding table_of
   variables_length = ap (λ u. u.variables) r.coded
-
-  pub variables_inside : all (inside (length s)) (map span_of (take (t.variables - 0) (drop 0 t.names))) ≡ true
-  variables_inside =
-      rw (names_variables t) (and_true_split _ _ (sym (all_append _ (view_table t).variables (view_table t).symbols) ∙ r.in_text)).0
-
-  -- what `find` gives for a word among them
-  pub variable_found : (w : Bytes) (n : ℕ) → n ≡ index_of s (map span_of (take (t.variables - 0) (drop 0 t.names))) w
-      → n ≡ index_of s (view_table t).variables w
-  variable_found w n e = e ∙ ap (λ xs. index_of s xs w) (names_variables t)
-
--- a step of the plain reader, by what the code has of it
-pub step_back : {n : Step} {x : Scan.Step} → n ≡ step_of x → x ≡ record { fault = n.fault; place = n.place }
-step_back e = ap (λ (m : Step). record { fault = m.fault; place = m.place }) (sym e)
 
 -- Arguments from p on, behind which the step x comes.
 module _ (s : Bytes) (xs : List Span) (ps : List Parameter) (p : ℕ) {x : Scan.Step} (n : next_word s p ≡ x) where
@@ -135,10 +127,10 @@ module _ {y : Symbol} (v : Events.Symbol) (e : y ≡ symbol_of v) (l : length v.
 
 -- A symbol as the code has it, that codes what is read back of it.
 module _ {y : Symbol} (h : y ≡ symbol_of (view_symbol y)) where
-  pub arguments_kept : {x : Scan.Step} {a : Arguments} → a ≡ record { step = x; parameters = (view_symbol y).parameters }
-      → record { fault = x.fault; place = x.place; symbol = y } ≡ arguments_read y.kind a
+  pub arguments_kept : {q : ℕ} {a : Arguments} → a ≡ record { step = go q; parameters = (view_symbol y).parameters }
+      → Ok (record { place = q; symbol = y }) ≡ arguments_read y.kind a
   unfolding view_symbol
-  arguments_kept {x} e = rw e (ap (λ (z : Symbol). record { fault = x.fault; place = x.place; symbol = z }) h)
+  arguments_kept {q} e = rw e (ap (λ (z : Symbol). Ok (record { place = q; symbol = z })) h)
 
   coded_count : y.count ≡ length (view_symbol y).parameters
   unfolding symbol_of
@@ -159,7 +151,7 @@ module _ {y : Symbol} (h : y ≡ symbol_of (view_symbol y)) where
     more_kept = coded_kept more more_coded more_few
 
     -- what is read behind it, with a among the places
-    pub more_reads : (s : Bytes) (xs : List Span) (e : ℕ) {r : ArgumentsRead} {m : Arguments}
+    pub more_reads : (s : Bytes) (xs : List Span) (e : ℕ) {r : Result ArgumentsRead Refusal} {m : Arguments}
         → r ≡ arguments_read y.kind (arguments_from s xs (4 - (y.count + 1)) (view_symbol (one_more y w)).parameters e)
         → m ≡ arguments_from s xs (4 - (y.count + 1)) more.parameters e → r ≡ arguments_read y.kind m
     more_reads s xs e f g =
@@ -185,11 +177,11 @@ module _ {z : Symbol} (h : z ≡ symbol_of no_symbol) (k : ℕ) where
   pub bare_kept : bare ≡ symbol_of (view_symbol bare)
   bare_kept = coded_kept bare_plain bare_coded zero-le
 
-  pub bare_reads : (s : Bytes) (xs : List Span) (e : ℕ) {r : ArgumentsRead}
+  pub bare_reads : (s : Bytes) (xs : List Span) (e : ℕ) {r : Result ArgumentsRead Refusal}
       → r ≡ arguments_read k (arguments_from s xs (4 - z.count) (view_symbol bare).parameters e) → r ≡ arguments_read k (arguments_from s xs 4 [] e)
   bare_reads s xs e f =
       let j : 4 - z.count ≡ 4 = omega (arith, bare_count) in
-      let reads : ℕ → Events.Symbol → ArgumentsRead = λ j v. arguments_read k (arguments_from s xs j v.parameters e) in
+      let reads : ℕ → Events.Symbol → Result ArgumentsRead Refusal = λ j v. arguments_read k (arguments_from s xs j v.parameters e) in
       f ∙ ap₂ reads j (coded_view bare_plain bare_coded zero-le)
 
 -- `kind_from` by its parts: the step k to KIND, the kind n, the arguments a. Shut, so that the arguments do not compute.
@@ -207,14 +199,21 @@ kind_parts : (s : Bytes) (xs : List Span) (x : Span) (p : ℕ) →
 unfolding kind_from kind_by
 kind_parts s xs x p = refl
 
-module _ (k : Scan.Step) {n : ℕ} (a : Arguments) (x : Span) (ok : k.fault ≡ 0) (some : n ≡ 0 → ⊥) {r : ArgumentsRead} (h : r ≡ arguments_read n a) where
-  by_stopped : (r.fault ≡ 0 → ⊥) → kind_by k n a x ≡ no_symbol_read (fail r.fault r.place)
+module _ (k : Scan.Step) {n : ℕ} (a : Arguments) (x : Span) (ok : k.fault ≡ 0) (some : n ≡ 0 → ⊥) where
+  by_stopped : (a.step.fault ≡ 0 → ⊥) → kind_by k n a x ≡ no_symbol_read a.step
   unfolding kind_by
-  by_stopped f = rw (eq-eqb _ 0 ok, ne_eqb n 0 some, ← ap (λ q. q.fault) h, ne_eqb _ 0 f, ← ap (λ q. q.place) h)
+  by_stopped f = rw (eq-eqb _ 0 ok, ne_eqb n 0 some, ne_eqb _ 0 f)
 
-  by_whole : r.fault ≡ 0 → record { fault = 0; place = r.place; name = name_of x; symbol = r.symbol } ≡ symbol_read (kind_by k n a x)
+  by_whole : a.step.fault ≡ 0 → kind_by k n a x ≡ record { step = a.step; name = x; symbol = record { kind = n; parameters = a.parameters } }
   unfolding kind_by
-  by_whole f = rw (eq-eqb _ 0 ok, ne_eqb n 0 some, ← ap (λ q. q.fault) h, eq-eqb _ 0 f) (cc (ap (λ q. q.place) h, ap (λ q. q.symbol) h))
+  by_whole f = rw (eq-eqb _ 0 ok, ne_eqb n 0 some, eq-eqb _ 0 f)
+
+  by_err : {r : Refusal} → Err r ≡ arguments_read n a → Err r ≡ symbol_read (kind_by k n a x)
+  by_err i = let (f, j) = brought_err a.step _ i in rw (by_stopped f) (brought_other a.step _ i _)
+
+  by_ok : {q : ArgumentsRead} → Ok q ≡ arguments_read n a
+      → Ok (record { place = q.place; name = name_of x; symbol = q.symbol }) ≡ symbol_read (kind_by k n a x)
+  by_ok i = let (f, j) = brought_ok a.step _ i in rw (by_whole f, eq-eqb a.step.fault 0 f, j)
 
 -- KIND and ARGS, where the step behind the name is k.
 module _ (s : Bytes) (xs : List Span) (x : Span) (p : ℕ) {k : Scan.Step} (w : want_word s p ≡ k) where
@@ -233,9 +232,36 @@ module _ (s : Bytes) (xs : List Span) (x : Span) (p : ℕ) {k : Scan.Step} (w : 
         by : (g : ℕ → Arguments) → let j = want_word s p in let i = word_end s j.place in kind_by j (kind_of s j.place i) (g i) x ≡ kind_by k n (g e) x
         by g = rw (w, ← ends, ← tells)
 
-    module _ (some : n ≡ 0 → ⊥) {r : ArgumentsRead} (reads : r ≡ arguments_read n (arguments_from s xs 4 [] e)) where
-      pub kind_stopped : (r.fault ≡ 0 → ⊥) → kind_from s xs x p ≡ no_symbol_read (fail r.fault r.place)
-      kind_stopped f = kind_by_law ∙ by_stopped k (arguments_from s xs 4 [] e) x ok some reads f
+    module _ (some : n ≡ 0 → ⊥) where
+      pub kind_err : {r : Refusal} → Err r ≡ arguments_read n (arguments_from s xs 4 [] e) → Err r ≡ symbol_read (kind_from s xs x p)
+      kind_err i = by_err k (arguments_from s xs 4 [] e) x ok some i ∙ ap symbol_read (sym kind_by_law)
 
-      pub kind_whole : r.fault ≡ 0 → record { fault = 0; place = r.place; name = name_of x; symbol = r.symbol } ≡ symbol_read (kind_from s xs x p)
-      kind_whole f = by_whole k (arguments_from s xs 4 [] e) x ok some reads f ∙ ap symbol_read (sym kind_by_law)
+      pub kind_ok : {q : ArgumentsRead} → Ok q ≡ arguments_read n (arguments_from s xs 4 [] e)
+          → Ok (record { place = q.place; name = name_of x; symbol = q.symbol }) ≡ symbol_read (kind_from s xs x p)
+      kind_ok i = by_ok k (arguments_from s xs 4 [] e) x ok some i ∙ ap symbol_read (sym kind_by_law)
+
+-- what a word told as a kind, or as a fixed number, says of it
+kind_cases : (n : ℕ) {o : Option ℕ} → o ≡ cond (eqb n 0) None (Some n) → ((o ≡ None) × (n ≡ 0)) ⊎ ((o ≡ Some n) × (n ≡ 0 → ⊥))
+kind_cases n {o} h = by (eqb n 0) refl
+  where
+    by : (b : Bool) → eqb n 0 ≡ b → ((o ≡ None) × (n ≡ 0)) ⊎ ((o ≡ Some n) × (n ≡ 0 → ⊥))
+    by true k = inl (rw k at h, eqb-true n 0 k)
+    by false k = inr (rw k at h, eqb-false n 0 k)
+
+pub kind_none : (n : ℕ) → None ≡ cond (eqb n 0) None (Some n) → n ≡ 0
+kind_none n h = elim (kind_cases n h) [ inl w ↦ w.1 | inr w ↦ absurd (cc w.0) ]
+
+pub kind_some : (n : ℕ) {k : ℕ} → Some k ≡ cond (eqb n 0) None (Some n) → (k ≡ n) × (k ≡ 0 → ⊥)
+kind_some n {k} h = elim (kind_cases n h) [ inl w ↦ absurd (cc w.0) | inr w ↦ (cc w.0, λ z. w.1 (cc (w.0, z))) ]
+
+pub number_none : (b : Bool) (n : ℕ) → None ≡ cond b (Some n) None → b ≡ false
+number_none true n h = absurd (cc h)
+number_none false n h = refl
+
+pub number_some : (b : Bool) (n : ℕ) {k : ℕ} → Some k ≡ cond b (Some n) None → (b ≡ true) × (k ≡ n)
+number_some true n h = (refl, cc h)
+number_some false n h = absurd (cc h)
+
+-- whether the sign of a fixed argument stands at p, by what is read there
+pub signed : (s : Bytes) (p : ℕ) {o : Option ℕ} {r b : Bool} → o ≡ slice_get s p → r ≡ option_eq eqb o (Some 61) → r ≡ b → eqb (at s p) fixed_sign ≡ b
+signed s p h k e = sym (peek_law s p 61 refl) ∙ ap (λ o. option_eq eqb o (Some 61)) (sym h) ∙ sym k ∙ e

@@ -7,10 +7,11 @@ use native.Mathlib.Omega.{arith}
 use borrow.Author.Tests.{le-leb}
 use lib.ListN.{length, take, drop, length-map, length-take, length-append}
 use lib.Seq.{take-add}
+use Rattle.std.specs.Prelude.{Ok}
 use Rattle.laws.specs.Lists.{all}
 use Rattle.laws.proofs.Lists.{all_append, and_true_split}
 use Rattle.form.specs.Text.{Bytes}
-use Rattle.form.specs.Scan.{Step}
+use Rattle.form.specs.Scan.{go}
 use Rattle.form.specs.Lines as Lines
 use Rattle.table.specs.Tables.{table_of, span_of, view_table, inside, Ready}
 use Rattle.table.proofs.Codes.{names_all, ready_fits}
@@ -44,12 +45,12 @@ names_length s t r to h =
     let n = simp (length-map, length-take, length-append) at (ap length (names_all t)) in
     simp (length-map, length-take) (omega (arith, n, variables_length r, count_length r))
 
--- an answer with the table as it was, in what was read: of variables, where it has no symbols, and of lines
-pub variables_kept : (s : Bytes) (t : Table) → Ready s t → t.count ≡ 0 → {x : Step} {v : Lines.Variables}
-    → v ≡ record { step = x; spans = (view_table t).variables } → record { fault = x.fault; place = x.place; table = t } ≡ variables_read v
+-- what was read with the table as it was: of variables, where it has no symbols, and of lines
+pub variables_kept : (s : Bytes) (t : Table) → Ready s t → t.count ≡ 0 → {q : ℕ} {v : Lines.Variables}
+    → v ≡ record { step = go q; spans = (view_table t).variables } → Ok (record { place = q; table = t }) ≡ variables_read v
 unfolding view_table
-variables_kept s t r e {x} h = rw h (ap (λ (u : Table). record { fault = x.fault; place = x.place; table = u }) (r.coded ∙ rw e))
+variables_kept s t r e {q} h = rw h (ap (λ (u : Table). Ok (record { place = q; table = u })) (r.coded ∙ rw e))
 
-pub lines_kept : (s : Bytes) (t : Table) → Ready s t → {x : Step} {l : Lines.Lines} → l ≡ record { step = x; table = view_table t }
-    → record { fault = x.fault; place = x.place; table = t } ≡ lines_read l
-lines_kept s t r {x} h = rw h (ap (λ (u : Table). record { fault = x.fault; place = x.place; table = u }) r.coded)
+pub lines_kept : (s : Bytes) (t : Table) → Ready s t → {q : ℕ} {l : Lines.Lines} → l ≡ record { step = go q; table = view_table t }
+    → Ok (record { place = q; table = t }) ≡ lines_read l
+lines_kept s t r {q} h = rw h (ap (λ (u : Table). Ok (record { place = q; table = u })) r.coded)

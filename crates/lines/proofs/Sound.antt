@@ -7,6 +7,7 @@ use native.Mathlib.Omega.{arith}
 use borrow.Author.Tests.{eqb-true, le-leb}
 use lib.Dec.{eqb, ltb}
 use lib.ListN.{length, set, length-append}
+use Rattle.std.specs.Prelude.{Ok}
 use Rattle.laws.specs.Lists.{all}
 use Rattle.laws.proofs.Lists.{all_more, either}
 use Rattle.meaning.specs.Events.{Parameter, ignored, names, fixed}
@@ -16,6 +17,7 @@ use Rattle.form.specs.Form.{same_word}
 use Rattle.form.specs.Scan.{Step, go, fail, at, part, word_end, next_word, name_fault, kind_of, is_number, fixed_number}
 use Rattle.form.specs.Lines.{span_of, index_of, declare_fault, Variables, variables_from, argument_fault, argument_of, Arguments, arguments_from}
 use Rattle.form.specs.Lines.{want_word, SymbolRead, no_symbol_read, kind_from, Table, symbol_from, with_symbol}
+use Rattle.text.proofs.Steps.{brought_ok}
 use Rattle.table.specs.Tables.{table_of, view_table, inside, Ready}
 use Rattle.table.specs.declared.Table as Tables
 use Rattle.table.proofs.Codes.{view_table_law, ready_symbol}
@@ -177,7 +179,7 @@ module _ (s : Bytes) (t : Tables.Table) (h : Ready s t) (l : t.count < 16) (e : 
   abbrev read : SymbolRead
   read = symbol_from s (view_table t) e
 
-  pub symbol_ready : {r : Results.SymbolRead} → r ≡ symbol_read read → {u : Tables.Table}
+  pub symbol_ready : {r : Results.SymbolRead} → Ok r ≡ symbol_read read → {u : Tables.Table}
       → u ≡ record {
         variables = t.variables;
         count = t.count + 1;
@@ -185,8 +187,10 @@ module _ (s : Bytes) (t : Tables.Table) (h : Ready s t) (l : t.count < 16) (e : 
         symbols = set t.symbols t.count r.symbol;
       }
       → Ready s u × (view_table u ≡ with_symbol (view_table t) read) × (u.count ≡ t.count + 1) × (r.place ≤ length s)
+      × (read.step.fault ≡ 0) × (r.place ≡ read.step.place)
   symbol_ready f g =
+      let (o, k) = brought_ok read.step _ f in
       let a = symbol_sound_law s (view_table t) e i in
       let d = rw (← variables_length h) at a.declared in
       let b = ready_symbol s t h l read.name a.in_text read.symbol a.few d in
-      rw (g, f) (b.0, b.1, refl, a.place)
+      rw (g, k) (b.0, b.1, refl, a.place, o, refl)

@@ -1,5 +1,5 @@
 -- The steps of the readers of a symbol's line, and of lines, as the code takes them.
-use mathlib.Core.Path.{◌≡◌, sym, ap, ap₂}
+use mathlib.Core.Path.{◌≡◌}
 use mathlib.Core.Bool.{true, false}
 use mathlib.Core.List.{◌++◌}
 use Prim.Native.Nat.{ℕ, zero, suc}
@@ -10,8 +10,6 @@ use Rattle.form.specs.Form.{same_word}
 use Rattle.form.specs.Scan.{Step, go, fail, part, word_end}
 use Rattle.form.specs.Lines.{Table, span_of, declare_fault, want_word, no_symbol_read, kind_from, symbol_from, with_symbol, lines_from}
 use Rattle.parsing.proofs.Scans.{same_word_law}
-use Rattle.lines.specs.declared.SymbolRead.{SymbolRead}
-use Rattle.lines.specs.Results.{symbol_read}
 
 -- A symbol's line behind `sym`, which ends at p, behind which the step x comes.
 module _ (s : Bytes) (t : Table) (p : ℕ) {x : Step} (n : want_word s p ≡ x) where
@@ -51,11 +49,10 @@ module _ (s : Bytes) (t : Table) (p : ℕ) {e : ℕ} (ends : e ≡ word_end s p)
     pub lines_full : room ≡ 0 → same_word (part s p e) match_word ≡ false → lines_from s room t p ≡ record { step = fail 3 p; table = t }
     lines_full z k = rw (z, ← ends, h, k)
 
-    module _ {rest : ℕ} (k : room ≡ suc rest) {r : SymbolRead} (reads : r ≡ symbol_read (symbol_from s t e)) where
-      pub line_stopped : (r.fault ≡ 0 → ⊥) → lines_from s room t p ≡ record { step = fail r.fault r.place; table = t }
-      line_stopped f =
-          rw (k, ← ends, h, ← ap (λ q. q.fault) reads, ne_eqb _ 0 f)
-          (ap₂ (λ i q. record { step = fail i q; table = t }) (sym (ap (λ q. q.fault) reads)) (sym (ap (λ q. q.place) reads)))
+    module _ {rest : ℕ} (k : room ≡ suc rest) where
+      pub line_stopped : ((symbol_from s t e).step.fault ≡ 0 → ⊥) → lines_from s room t p ≡ record { step = (symbol_from s t e).step; table = t }
+      line_stopped f = rw (k, ← ends, h, ne_eqb _ 0 f)
 
-      pub line_next : r.fault ≡ 0 → lines_from s room t p ≡ lines_from s rest (with_symbol t (symbol_from s t e)) r.place
-      line_next f = rw (k, ← ends, h, ← ap (λ q. q.fault) reads, eq-eqb _ 0 f, ← ap (λ q. q.place) reads)
+      pub line_next : (symbol_from s t e).step.fault ≡ 0
+          → lines_from s room t p ≡ lines_from s rest (with_symbol t (symbol_from s t e)) (symbol_from s t e).step.place
+      line_next f = rw (k, ← ends, h, eq-eqb _ 0 f)

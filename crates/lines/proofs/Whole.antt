@@ -14,6 +14,9 @@ use Rattle.form.specs.Lines as Lines
 use Rattle.form.specs.Lines.{Variables, variables_from, no_table, lines_from, lines_of}
 use Rattle.table.specs.Tables.{table_of, view_table, Ready}
 use Rattle.table.specs.declared.Table.{Table}
+use Rattle.std.specs.Prelude.{Ok, Err}
+use Rattle.text.specs.declared.Refusal.{Refusal}
+use Rattle.text.proofs.Steps.{brought_ok, brought_err, brought_other}
 use Rattle.lines.specs.declared.LinesRead.{LinesRead}
 use Rattle.lines.specs.Results.{lines_read, variables_read}
 use Rattle.lines.proofs.Gaps.{word_within}
@@ -51,46 +54,50 @@ module _ (s : Bytes) {e : ℕ} (ends : e ≡ word_end s 0) {t : Table} (none : t
   unfolding lines_in
   vars_not few many h = rw (← ends, h)
 
-  pub vars_wrong : same_word (part s 0 e) vars_word ≡ false → record { fault = 2; place = 0; table = t } ≡ lines_read (lines_of s)
-  vars_wrong h = rw (none, lines_in_law s refl refl, vars_not 4 16 h)
+  pub vars_wrong : same_word (part s 0 e) vars_word ≡ false → lines_of s ≡ record { step = fail 2 0; table = no_table }
+  vars_wrong h = lines_in_law s refl refl ∙ vars_not 4 16 h
 
-  -- v is what is read of variables behind it
-  module _ {v : LinesRead} (reads : v ≡ variables_read (variables_from s (4 - t.variables) (view_table t).variables e)) where
-    abbrev vars : Variables
-    vars = variables_from s (4 - t.variables) [] e
+  -- what is read of variables behind it
+  abbrev vars : Variables
+  vars = variables_from s (4 - t.variables) [] e
 
-    vars_reads : v ≡ variables_read vars
-    vars_reads =
-        let z = ap view_table none ∙ (variables_ready s [] zero-le refl).1 in
-        reads ∙ ap (λ (u : Lines.Table). variables_read (variables_from s (4 - t.variables) u.variables e)) z
+  pub vars_read_law : variables_read (variables_from s (4 - t.variables) (view_table t).variables e) ≡ variables_read vars
+  vars_read_law =
+      let z = ap view_table none ∙ (variables_ready s [] zero-le refl).1 in
+      ap (λ (u : Lines.Table). variables_read (variables_from s (4 - t.variables) u.variables e)) z
 
-    vars_sound : VariablesSound s 4 vars
-    vars_sound = variables_sound s 4 (4 - t.variables) [] e (word_within s 0 e ends zero-le).1 (omega arith) refl
+  vars_sound : VariablesSound s 4 vars
+  vars_sound = variables_sound s 4 (4 - t.variables) [] e (word_within s 0 e ends zero-le).1 (omega arith) refl
 
-    vars_coded : Ready s v.table × (view_table v.table ≡ bare vars.spans)
-    vars_coded = rw (ap (λ q. q.table) vars_reads) (variables_ready s vars.spans vars_sound.few vars_sound.in_text)
+  -- where the first word is `vars`
+  module _ (h : same_word (part s 0 e) vars_word ≡ true) where
+    vars_failed : (many : ℕ) → (vars.step.fault ≡ 0 → ⊥) → lines_in (4 - t.variables) many s ≡ record { step = vars.step; table = no_table }
+    unfolding lines_in
+    vars_failed many f = rw (← ends, h, ne_eqb _ 0 f)
 
-    pub vars_ready : Ready s v.table × (v.place ≤ length s)
-    vars_ready = (vars_coded.0, rw (ap (λ q. q.place) vars_reads) vars_sound.place)
+    vars_found : (many : ℕ) → vars.step.fault ≡ 0 → lines_in (4 - t.variables) many s ≡ lines_from s many (bare vars.spans) vars.step.place
+    unfolding lines_in
+    vars_found many f = rw (← ends, h, eq-eqb _ 0 f)
 
-    -- where the first word is `vars`
-    module _ (h : same_word (part s 0 e) vars_word ≡ true) where
-      vars_failed : (many : ℕ) → (v.fault ≡ 0 → ⊥) → lines_in (4 - t.variables) many s ≡ record { step = fail v.fault v.place; table = no_table }
-      unfolding lines_in
-      vars_failed many f =
-          let a = ap (λ q. q.fault) vars_reads in
-          let b = ap (λ q. q.place) vars_reads in
-          rw (← ends, h, ← a, ne_eqb _ 0 f) (ap₂ (λ i q. record { step = fail i q; table = no_table }) (sym a) (sym b))
+    pub vars_stopped : {r : Refusal} → Err r ≡ variables_read vars → Err r ≡ lines_read (lines_of s)
+    vars_stopped i =
+        let (f, k) = brought_err vars.step _ i in
+        rw (lines_in_law s (none_room none) refl, vars_failed 16 f) (brought_other vars.step _ i _)
 
-      vars_found : (many : ℕ) → v.fault ≡ 0 → lines_in (4 - t.variables) many s ≡ lines_from s many (view_table v.table) v.place
-      unfolding lines_in
-      vars_found many f = rw (← ends, h, ← ap (λ q. q.fault) vars_reads, eq-eqb _ 0 f, vars_coded.1, ap (λ q. q.place) vars_reads)
+    -- and v is what was read
+    module _ {v : LinesRead} (reads : Ok v ≡ variables_read vars) where
+      vars_is : (vars.step.fault ≡ 0) × (v ≡ record { place = vars.step.place; table = table_of (bare vars.spans) })
+      vars_is = brought_ok vars.step _ reads
 
-      pub vars_stopped : (v.fault ≡ 0 → ⊥) → record { fault = v.fault; place = v.place; table = t } ≡ lines_read (lines_of s)
-      vars_stopped f = rw (lines_in_law s (none_room none) refl, vars_failed 16 f, none)
+      vars_coded : Ready s v.table × (view_table v.table ≡ bare vars.spans)
+      vars_coded = rw (ap (λ q. q.table) vars_is.1) (variables_ready s vars.spans vars_sound.few vars_sound.in_text)
 
-      pub vars_read : v.fault ≡ 0 → lines_of s ≡ lines_from s (16 - v.table.count) (view_table v.table) v.place
+      pub vars_ready : Ready s v.table × (v.place ≤ length s)
+      vars_ready = (vars_coded.0, rw (ap (λ q. q.place) vars_is.1) vars_sound.place)
+
+      pub vars_read : lines_of s ≡ lines_from s (16 - v.table.count) (view_table v.table) v.place
       unfolding table_of
-      vars_read f =
-          let k : v.table.count ≡ 0 = ap (λ q. q.table.count) vars_reads in
-          lines_in_law s (none_room none) (omega arith) ∙ vars_found (16 - v.table.count) f
+      vars_read =
+          let k : v.table.count ≡ 0 = ap (λ q. q.table.count) vars_is.1 in
+          lines_in_law s (none_room none) (omega arith) ∙ vars_found (16 - v.table.count) vars_is.0
+          ∙ rw (vars_coded.1, ap (λ q. q.place) vars_is.1)

@@ -4,6 +4,7 @@ use mathlib.Core.Path.{◌≡◌, sym, ap, ap₂, ◌∙◌}
 use mathlib.Core.Bool.{true, cond, ◌&&◌, and-eq-true_iff}
 use mathlib.Core.List.{List, map, map-map, Memᴰ}
 use Prim.Native.Nat.{ℕ, ◌-◌, ◌≤◌}
+use Rattle.std.proofs.Common.{Option, Some, None, IfSome, IsSome, unwrap_or}
 use native.Mathlib.Omega.{arith}
 use borrow.Author.Tests.{leb-true, le-leb}
 use lib.Dec.{leb}
@@ -17,7 +18,7 @@ use Rattle.meaning.specs.Events as Events
 use Rattle.meaning.specs.Book as Plain
 use Rattle.meaning.specs.Book.{sound_book, followers}
 use Rattle.meaning.specs.Labels.{Held, new_held}
-use Rattle.meaning.specs.Room.{room}
+use Rattle.meaning.specs.Room.{room, held_limit}
 use Rattle.meaning.specs.Rows.{row_limit, rows}
 use Rattle.meaning.specs.Sound.{sound_piece, sound_held}
 use Rattle.meaning.specs.Wide.{wide_held, wide_valuation, wide_book}
@@ -39,13 +40,19 @@ use Rattle.rows.proofs.Valuations as Valuations
 use Rattle.matcher.specs.declared.Effect.{Effect}
 use Rattle.matcher.specs.Effects.{Holding, Effects}
 
+-- rows that there is room for are counted
+counted_rows : (c : Option ℕ) (out : List ℕ) (l : List Events.Valuation) → IfSome c (λ k. k ≤ row_limit) → rows_grown c out ≡ grown l
+    → (unwrap_or c 0 ≤ row_limit) × (take (unwrap_or c 0) (valuations_in out) ≡ l)
+counted_rows None out l few e = let z : ◌≡◌ {A = ℕ} 0 1 = cc in absurd (omega arith)
+counted_rows (Some k) out l few e = (few, cc)
+
 -- the positions of what is held stay where it is made wide
 wide_position : (l : List Held) → map (λ h. h.position) (map wide_held l) ≡ map (λ h. h.position) l
 unfolding wide_held
 wide_position l = map-map (λ h. h.position) wide_held l
 
 -- the constraints of the table are those of the book
-pub constraints_known : (b : Book) (e : Events.Event) (cs : List Constraint)
+pub constraints_known : (b : Book) (e : Events.Event) (cs : List (Option Constraint))
     → map view_constraint (take b.symbols cs) ≡ map (λ y. Events.constraint_of (view_symbol y) e) (take b.symbols b.table)
     → map view_constraint (take b.symbols cs) ≡ map (λ y. Events.constraint_of y e) (view_book b).symbols
 unfolding view_book
@@ -96,22 +103,38 @@ module _ (b : Plain.Book) (sb : sound_book b ≡ true) (n : ℕ) (at w : List �
     rows_few : length (map wide_valuation (rows b held.plain e)) ≤ row_limit
     rows_few = rw (length-map (rows b held.plain e) wide_valuation) (few_rows b sb held.plain held.sound e)
 
-    -- by the counts, the flag and the words of `collect` and of `advance`
-    pub effects_known : (r : Effect) (at' w' out : List ℕ) → rows_grown r.rows out ≡ within row_limit (rows (wide_book b) (held_in n at w) e)
-        → r.free ≡ free_rows b.variables (wide_book b) (held_in n at w) e
-        → held_grown r.held at' w' ≡ cond (room (wide_book b) (held_in n at w) e) (grown (new_held (wide_book b) (held_in n at w) e)) full
-        → Effects b held.plain e r at' w' out
-    effects_known r at' w' out g f a =
+    -- what the rows are, wide
+    rows_wide : within row_limit (rows (wide_book b) (held_in n at w) e) ≡ grown (map wide_valuation (rows b held.plain e))
+    rows_wide =
         let D = held.plain in
         let l = map wide_valuation (rows b D e) in
-        let listed : within row_limit (rows (wide_book b) (held_in n at w) e) ≡ grown l =
         ap (λ k. within row_limit (rows (wide_book b) k e)) held.wide ∙ ap (within row_limit) (wide_rows b sb D held.sound e)
-        ∙ ap (λ t. cond t (grown l) full) (le-leb (length l) row_limit rows_few) in
-        let q : (r.rows ≤ row_limit) × (take r.rows (valuations_in out) ≡ l) = Valuations.grown_in_law r.rows out l (g ∙ listed) in
+        ∙ ap (λ t. cond t (grown l) full) (le-leb (length l) row_limit rows_few)
+
+    -- there is room for them
+    pub rows_some : (c : Option ℕ) (out : List ℕ) → rows_grown c out ≡ within row_limit (rows (wide_book b) (held_in n at w) e) → IsSome c
+    rows_some (Some k) out g = search
+    rows_some None out g =
+        let none : full ≡ grown (map wide_valuation (rows b held.plain e)) = g ∙ rows_wide in
+        let apart : ◌≡◌ {A = ℕ} 0 1 = cc in
+        absurd (omega arith)
+
+    -- by the counts, the flag and the words of `collect` and of `advance`
+    pub effects_known : (r : Effect) (c : Option ℕ) (at' w' out : List ℕ) → r.rows ≡ unwrap_or c 0 → IfSome c (λ k. k ≤ row_limit)
+        → rows_grown c out ≡ within row_limit (rows (wide_book b) (held_in n at w) e)
+        → r.free ≡ free_rows b.variables (wide_book b) (held_in n at w) e
+        → IfSome r.held (λ k. k ≤ held_limit)
+        → held_grown r.held at' w' ≡ cond (room (wide_book b) (held_in n at w) e) (grown (new_held (wide_book b) (held_in n at w) e)) full
+        → Effects b held.plain e r at' w' out
+    effects_known r c at' w' out k few g f fits a =
+        let D = held.plain in
+        let l = map wide_valuation (rows b D e) in
+        let q : (r.rows ≤ row_limit) × (take r.rows (valuations_in out) ≡ l) = rw k (counted_rows c out l few (g ∙ rows_wide)) in
         record {
           free = f ∙ ap (λ k. free_rows b.variables (wide_book b) k e) held.wide ∙ wide_free b sb D held.sound e;
           after = a ∙ ap (λ k. cond (room (wide_book b) k e) (grown (new_held (wide_book b) k e)) full) held.wide
               ∙ ap₂ (λ t k. cond t (grown k) full) (wide_room b sb D held.sound e) (wide_held_law b sb D held.sound e);
+          room = fits;
           counted = sym (length-take-le r.rows (valuations_in out) (omega (arith, q.0, Valuations.in_length out))) ∙ ap length q.1
               ∙ length-map (rows b D e) wide_valuation;
           few = q.0;

@@ -1,6 +1,6 @@
 -- What the pure step over lent words asks of them, and what it leaves in them. No public contract and no theorem cites this page: a buyer may pass
 -- it over.
-use Rattle.std.specs.Prelude.{◌≡◌, true, cond, List, map, ℕ, ◌≤◌, length, take}
+use Rattle.std.specs.Prelude.{◌≡◌, IfSome, true, cond, List, map, ℕ, ◌≤◌, length, take}
 use Rattle.laws.specs.Sets.{full, grown}
 use Rattle.meaning.specs.Events as Events
 use Rattle.meaning.specs.Book.{Book}
@@ -23,6 +23,7 @@ pub record Holding (b : Book) (n : ℕ) (at words : List ℕ) : Type 0 where
 pub record Effects (b : Book) (held : List Held) (e : Events.Event) (r : Effect) (at words out : List ℕ) : Type 0 where
   pub free : r.free ≡ Rows.leaves_free b held e
   pub after : held_grown r.held at words ≡ cond (Room.room b held e) (grown (map wide_held (new_held b held e))) full
+  pub room : IfSome r.held (λ k. k ≤ Room.held_limit)
   pub counted : r.rows ≡ length (Rows.rows b held e)
   pub few : r.rows ≤ Rows.row_limit
   pub listed : take r.rows (valuations_in out) ≡ map wide_valuation (Rows.rows b held e)

@@ -15,11 +15,12 @@ use book::Book;
 use packed::{CAPACITY, Words};
 use record::Event;
 
-// What an event does: whether a row would leave a variable free; how many disjuncts the new labels hold, or NO_ROOM of `packed`; how many rows.
-#[derive(Clone, Copy)]
+// What an event does: whether a row would leave a variable free; how many disjuncts the new labels hold, or None where there is no room for them;
+// how many rows.
+#[derive(Clone, Copy, PartialEq, Eq)]
 pub struct Effect {
     pub free: bool,
-    pub held: usize,
+    pub held: Option<usize>,
     pub rows: usize,
 }
 
@@ -41,16 +42,15 @@ pub fn take_event(
     ensures { (h : Holding (starting_at begins (view_book book)) n at.now held.now)
         → Effects (starting_at begins (view_book book)) h.plain (view_event e) result next_at.new next.new out.new }
 {
-    let table = book.table;
-    let follows = book.follows;
-    let cs = constraint::constraints(table, book.symbols, e);
+    let cs = constraint::constraints(book.table, book.symbols, e);
     let mut masks = [0u32; CAPACITY];
-    step::follow_masks(follows, at, n, &mut masks);
+    step::follow_masks(book.follows, at, n, &mut masks);
     let found = collect::collect(book, begins, cs, held, at, &masks, n, out);
-    let k = advance::advance(book, begins, cs, held, at, &masks, n, next, next_at);
+    let after = advance::advance(book, begins, cs, held, at, &masks, n, next, next_at);
     Effect {
         free: found.free,
-        held: k,
-        rows: found.rows,
+        held: after,
+        // There is room for the rows of a sound book.
+        rows: found.rows.unwrap(),
     }
 }

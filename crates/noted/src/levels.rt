@@ -1,59 +1,100 @@
 // What every word of the pattern has, as far as it is read: a few bits for each depth of parentheses, for 7 and 8. For the second
 // reader.
-use crate::{DEPTH, ITEM, LACKED, SEQUENCE, STANDS};
+use std::alloc::{AllocError, Global};
+use std::mem;
 
 // What every word of a part of the pattern has: a bit to each variable where it binds it, and a fifth where it is not empty. All of them.
-pub const NOT_EMPTY: u32 = 16;
+pub const NOT_EMPTY: u8 = 16;
 
-pub const ALL: u32 = 31;
+pub const ALL: u8 = 31;
 
-// The words of the depth that the scan is at.
-fn index(work: &[u32], i: usize) -> usize {
-    let depth = cells::get(work, DEPTH) as usize % crate::LEVELS;
-    crate::LEVEL + depth * crate::LEVEL_WORDS + i % crate::LEVEL_WORDS
+// One depth of parentheses.
+#[derive(Clone, Copy)]
+struct Level {
+    // What some word of the sequences before this one lacks.
+    lacked: u8,
+    // What every word of this sequence but its last item has.
+    before: u8,
+    // What every word of the last item has; none where nothing of the sequence stands yet.
+    item: Option<u8>,
 }
 
-fn get(work: &[u32], i: usize) -> u32 {
-    cells::get(work, index(work, i))
+impl Level {
+    // A sequence of which there is nothing yet.
+    fn begin(lacked: u8) -> Level {
+        Level {
+            lacked,
+            before: 0,
+            item: None,
+        }
+    }
+
+    // What every word of the sequence has, its last item included: what either part has.
+    fn sequence(self) -> u8 {
+        self.before | self.item.unwrap_or(0)
+    }
 }
 
-fn put(work: &mut [u32], i: usize, x: u32) {
-    let at = index(work, i);
-    cells::put(work, at, x);
+// The depth that the scan is at, and those around it, the outermost first.
+#[derive(Drop)]
+pub struct Levels {
+    inner: Level,
+    around: Vec<Level>,
 }
 
-// What every word of the sequence has, its last item included: what either part has.
-fn sequence(work: &[u32]) -> u32 {
-    get(work, SEQUENCE) | get(work, ITEM)
-}
+impl Levels {
+    pub fn new(alloc: Global) -> Levels {
+        Levels {
+            inner: Level::begin(0),
+            around: Vec::new(alloc),
+        }
+    }
 
-// What every word of the alternation has, this sequence included: what no word of those before lacks.
-pub fn alternation(work: &[u32]) -> u32 {
-    sequence(work) & (ALL ^ get(work, LACKED))
-}
+    // How many parentheses are open.
+    pub fn depth(&self) -> usize {
+        self.around.len()
+    }
 
-// One item more.
-pub fn item(work: &mut [u32], x: u32) {
-    let before = sequence(work);
-    put(work, SEQUENCE, before);
-    put(work, ITEM, x);
-    cells::put(work, STANDS, 1);
-}
+    // Whether an item stands before.
+    pub fn stands(&self) -> bool {
+        self.inner.item.is_some()
+    }
 
-pub fn divide(work: &mut [u32]) {
-    let lacked = get(work, LACKED) | ALL ^ sequence(work);
-    begin(work, lacked);
-}
+    // What every word of the alternation has, this sequence included: what no word of those before lacks.
+    pub fn alternation(&self) -> u8 {
+        self.inner.sequence() & (ALL ^ self.inner.lacked)
+    }
 
-// The last item may be left out.
-pub fn optional(work: &mut [u32]) {
-    put(work, ITEM, 0);
-}
+    // One item more.
+    pub fn add(&mut self, has: u8) {
+        self.inner.before = self.inner.sequence();
+        self.inner.item = Some(has);
+    }
 
-// A sequence of which there is nothing yet.
-pub fn begin(work: &mut [u32], lacked: u32) {
-    put(work, LACKED, lacked);
-    put(work, SEQUENCE, 0);
-    put(work, ITEM, 0);
-    cells::put(work, STANDS, 0);
+    // The last item may be left out.
+    pub fn optional(&mut self) {
+        self.inner.item = Some(0);
+    }
+
+    // One sequence more of the alternation.
+    pub fn divide(&mut self) {
+        self.inner = Level::begin(self.inner.lacked | ALL ^ self.inner.sequence());
+    }
+
+    pub fn open(&mut self) -> Result<(), AllocError> {
+        self.around
+            .push(mem::replace(&mut self.inner, Level::begin(0)))?;
+        Ok(())
+    }
+
+    // The alternation in parentheses is an item of what is around it: whether one was open.
+    pub fn close(&mut self) -> bool {
+        let has = self.alternation();
+        let Some(around) = self.around.pop() else {
+            return false;
+        };
+        self.inner = around;
+        self.add(has);
+        true
+    }
 }

@@ -1,7 +1,6 @@
 // Held disjuncts drawn at random, for the states of `block_cases`: few, many, or all 128, most of them at positions 1 and 2, some at position 3,
 // where no run leaves any.
-use crate::entries;
-use crate::entries::{Entry, Held, PLACES, VALUE};
+use crate::entries::{EXCLUSIONS, Entry, Excluded, Held, PLACES, Second};
 use corrupted::amounts;
 
 // The least value of `d`, and of `s`: so far below the largest that all values of a case fit.
@@ -30,7 +29,7 @@ fn count(seed: u64) -> usize {
     }
 }
 
-// How many stand before position 2, and before position 3: all, three times in four.
+// How many of n stand before position 2, and before position 3: all, three times in four.
 fn before_second(seed: u64, n: usize) -> usize {
     draws::below(seed, 12, n as u64 % 1000 + 1) as usize
 }
@@ -44,36 +43,23 @@ fn before_third(seed: u64, n: usize) -> usize {
 
 fn position(seed: u64, n: usize, i: usize) -> u32 {
     if before_third(seed, n) <= i {
-        return 3;
+        3
+    } else if before_second(seed, n) <= i {
+        2
+    } else {
+        1
     }
-    if before_second(seed, n) <= i { 2 } else { 1 }
 }
 
-// Exclusion i of n: ascending, with gaps.
-fn excluded(seed: u64, k: u64, n: u64, i: u64) -> u32 {
-    if n <= i {
-        return 0;
+// A free `s` without up to six values, with gaps.
+fn free(seed: u64, k: u64) -> Second {
+    let n = draws::below(seed, k, 9) as usize;
+    let mut numbers = [0; EXCLUSIONS];
+    for (i, x) in numbers.iter_mut().enumerate() {
+        let gap = draws::below(seed, k % 60000 + 1 + i as u64, 2);
+        *x = raised(least(seed, LEAST_S), i as u64 * 2 + gap);
     }
-    raised(
-        least(seed, LEAST_S),
-        i % 6 * 2 + draws::below(seed, k % 60000 + i % 6, 2) % 2,
-    )
-}
-
-// A free `s` without up to six values.
-fn free(seed: u64, k: u64, position: u32, d: u32) -> Entry {
-    let drawn = draws::below(seed, k, 9);
-    let n = if drawn < 6 { drawn } else { 6 };
-    let j = k % 60000 + 1;
-    let numbers = [
-        excluded(seed, j, n, 0),
-        excluded(seed, j, n, 1),
-        excluded(seed, j, n, 2),
-        excluded(seed, j, n, 3),
-        excluded(seed, j, n, 4),
-        excluded(seed, j, n, 5),
-    ];
-    entries::free(position, d, amounts::short(n), numbers)
+    Second::Free(Excluded::of(&numbers[..n.min(EXCLUSIONS)]))
 }
 
 // Whether `s` has a value: seldom at position 1, mostly at 2, always at 3.
@@ -88,11 +74,10 @@ fn has_value(seed: u64, k: u64, position: u32) -> bool {
 
 // The value of an `s` behind an entry with the same `d`.
 fn behind(e: Entry, least: u32, more: u64) -> u32 {
-    if e.code == VALUE {
-        let x = e.numbers;
-        return raised(x[0], more % 3 + 1);
+    match e.s {
+        Second::Value(x) => raised(x, more % 3 + 1),
+        Second::Free(_) => raised(least, more),
     }
-    raised(least, more)
 }
 
 // Whether an entry has the `d` of the one before it: one time in three, or in a quarter of all cases nearly always.
@@ -112,29 +97,32 @@ fn next(seed: u64, i: usize, e: Entry, position: u32) -> Entry {
     let more = draws::below(seed, k, 3);
     let first = e.position != position;
     if !first && is_same(seed, k + 1) {
-        return entries::valued(position, e.d, behind(e, s, more));
+        return Entry {
+            position,
+            d: e.d,
+            s: Second::Value(behind(e, s, more)),
+        };
     }
-    let step = 1 + draws::below(seed, k + 2, 2) % 2;
     let d = if first {
         least(seed, LEAST_D)
     } else {
-        raised(e.d, step)
+        raised(e.d, 1 + draws::below(seed, k + 2, 2))
     };
-    if has_value(seed, k + 3, position) {
-        return entries::valued(position, d, raised(s, more));
-    }
-    free(seed, k + 4, position, d)
+    let s = if has_value(seed, k + 3, position) {
+        Second::Value(raised(s, more))
+    } else {
+        free(seed, k + 4)
+    };
+    Entry { position, d, s }
 }
 
 pub fn held(seed: u64) -> Held {
     let n = count(seed);
-    let mut last = entries::valued(0, 0, 0);
-    let mut h = entries::none();
-    let mut i: usize = 0;
-    while i < n {
+    let mut last = Entry::default();
+    let mut h = Held::none();
+    for i in 0..n {
         last = next(seed, i, last, position(seed, n, i));
-        h = entries::pushed(h, last);
-        i += 1;
+        h.push(last);
     }
     h
 }

@@ -1,172 +1,135 @@
 // Disjuncts in the order of document 01, as entries: `d` has a value in each, `s` has one or is free without some. No two entries of one position
 // and one `d` have `s` free, so that values alone decide the order.
+ghost use Rattle.std.specs.Prelude.{◌≤◌, length};
+
+use arrayvec::ArrayVec;
 
 // "at most 128 disjuncts", "at most 6 excluded values"
 pub const PLACES: usize = 128;
 
 pub const EXCLUSIONS: usize = 6;
 
-// The code of an `s` with a value, the first of the numbers; any other code is the count of those that a free `s` excludes.
-pub const VALUE: u32 = 7;
-
 // One more than may be held: a list that has no room.
 const ROOM: usize = PLACES + 1;
+
+// The values that a free `s` does not have, ascending: so many of the numbers.
+#[derive(Clone, Copy, PartialEq, Eq)]
+pub struct Excluded {
+    count: usize,
+    numbers: [u32; EXCLUSIONS],
+}
+
+impl Excluded {
+    // Of up to six that ascend.
+    pub fn of(xs: &[u32]) -> Excluded {
+        let mut numbers = [0; EXCLUSIONS];
+        for (place, x) in numbers.iter_mut().zip(xs) {
+            *place = *x;
+        }
+        Excluded {
+            count: xs.len().min(EXCLUSIONS),
+            numbers,
+        }
+    }
+
+    pub fn values(&self) -> &[u32]
+        ensures { length result.now ≤ 6 }
+    {
+        &self.numbers[..self.count.min(EXCLUSIONS)]
+    }
+
+    // One value more, in its place; not the seventh.
+    pub fn with(self, x: u32) -> Option<Excluded> {
+        let n = self.count;
+        if EXCLUSIONS <= n {
+            return None;
+        }
+        let mut numbers = self.numbers;
+        numbers[n] = x;
+        numbers[..n + 1].sort_unstable();
+        Some(Excluded {
+            count: n + 1,
+            numbers,
+        })
+    }
+}
+
+// What an entry says of `s`.
+#[derive(Clone, Copy, PartialEq, Eq)]
+pub enum Second {
+    Free(Excluded),
+    Value(u32),
+}
+
+impl Second {
+    // Whether it may have the value.
+    pub fn admits(self, x: u32) -> bool {
+        match self {
+            Second::Free(excluded) => !excluded.values().contains(&x),
+            Second::Value(y) => x == y,
+        }
+    }
+
+    pub fn value(self) -> Option<u32> {
+        match self {
+            Second::Free(_) => None,
+            Second::Value(x) => Some(x),
+        }
+    }
+}
 
 #[derive(Clone, Copy)]
 pub struct Entry {
     pub position: u32,
     pub d: u32,
-    pub code: u32,
-    pub numbers: [u32; EXCLUSIONS],
+    pub s: Second,
 }
 
-#[derive(Clone, Copy)]
+impl Entry {
+    // "Held disjuncts stand by position, then by values (a free variable before any value)"
+    fn precedes(&self, other: &Entry) -> bool {
+        (self.position, self.d, self.s.value()) < (other.position, other.d, other.s.value())
+    }
+}
+
+impl Default for Entry {
+    fn default() -> Entry {
+        Entry {
+            position: 0,
+            d: 0,
+            s: Second::Value(0),
+        }
+    }
+}
+
+#[derive(Drop)]
 pub struct Held {
-    pub count: usize,
-    pub entries: [Entry; ROOM],
+    entries: ArrayVec<Entry, ROOM>,
 }
 
-pub fn valued(position: u32, d: u32, s: u32) -> Entry {
-    Entry {
-        position: position,
-        d: d,
-        code: VALUE,
-        numbers: [s, 0, 0, 0, 0, 0],
+impl Held {
+    pub fn none() -> Held {
+        Held {
+            entries: ArrayVec::new(),
+        }
     }
-}
 
-pub fn free(position: u32, d: u32, count: u32, numbers: [u32; EXCLUSIONS]) -> Entry {
-    Entry {
-        position: position,
-        d: d,
-        code: count,
-        numbers: numbers,
+    pub fn entries(&self) -> &[Entry] {
+        self.entries.as_slice()
     }
-}
 
-pub fn none() -> Held {
-    let e = valued(0, 0, 0);
-    Held {
-        count: 0,
-        entries: [e; ROOM],
+    // An entry more, behind the others.
+    pub fn push(&mut self, e: Entry) {
+        let _ = self.entries.try_push(e);
     }
-}
 
-pub fn at(h: Held, i: usize) -> Entry {
-    if i < ROOM {
-        return h.entries[i];
+    // An entry more, behind those that precede it.
+    pub fn insert(&mut self, e: Entry) {
+        let held = self.entries.as_slice();
+        let at = held
+            .iter()
+            .position(|x| !x.precedes(&e))
+            .unwrap_or(held.len());
+        let _ = self.entries.try_insert(at, e);
     }
-    valued(0, 0, 0)
-}
-
-// An entry more, behind the others.
-pub fn pushed(h: Held, e: Entry) -> Held {
-    let n = h.count;
-    let mut r = h;
-    if n < ROOM {
-        r.entries[n] = e;
-        r.count = n + 1;
-    }
-    r
-}
-
-// How many numbers of an entry count.
-pub fn counted(e: Entry) -> u32 {
-    if e.code == VALUE { 1 } else { e.code }
-}
-
-// Whether a free `s` excludes a value.
-pub fn excludes(e: Entry, b: u32) -> bool {
-    let n = e.code;
-    let x = e.numbers;
-    (0 < n) & (x[0] == b)
-        | (1 < n) & (x[1] == b)
-        | (2 < n) & (x[2] == b)
-        | (3 < n) & (x[3] == b)
-        | (4 < n) & (x[4] == b)
-        | (5 < n) & (x[5] == b)
-}
-
-// Whether number i is one of the first n, and below a value.
-fn below(x: [u32; EXCLUSIONS], n: usize, i: usize, b: u32) -> bool {
-    if i < EXCLUSIONS {
-        return (i < n) & (x[i] < b);
-    }
-    false
-}
-
-// Number i of a list with a value more, ascending: those below the value, the value, those above.
-fn merged(x: [u32; EXCLUSIONS], n: usize, b: u32, i: usize) -> u32 {
-    if below(x, n, i, b) {
-        return numbered(x, n, i);
-    }
-    if i == 0 {
-        return b;
-    }
-    if below(x, n, i - 1, b) {
-        return b;
-    }
-    numbered(x, n, i - 1)
-}
-
-// Number i of the first n, zero beyond.
-fn numbered(x: [u32; EXCLUSIONS], n: usize, i: usize) -> u32 {
-    if i < EXCLUSIONS && i < n {
-        return x[i];
-    }
-    0
-}
-
-// A free `s` that excludes one value more, which it did not.
-pub fn excluding(e: Entry, b: u32) -> Entry {
-    let n = e.code as usize;
-    let x = e.numbers;
-    let numbers = [
-        merged(x, n, b, 0),
-        merged(x, n, b, 1),
-        merged(x, n, b, 2),
-        merged(x, n, b, 3),
-        merged(x, n, b, 4),
-        merged(x, n, b, 5),
-    ];
-    free(e.position, e.d, e.code % 7 + 1, numbers)
-}
-
-// "Held disjuncts stand by position, then by values (a free variable before any value)"
-fn precedes(x: Entry, y: Entry) -> bool {
-    if x.position != y.position {
-        return x.position < y.position;
-    }
-    if x.d != y.d {
-        return x.d < y.d;
-    }
-    if x.code != VALUE || y.code != VALUE {
-        return y.code == VALUE;
-    }
-    x.numbers[0] < y.numbers[0]
-}
-
-// Entry i of a list with an entry more: those before it, the entry, those behind it.
-fn ordered(h: Held, e: Entry, i: usize) -> Entry {
-    let x = at(h, i);
-    if i < h.count && precedes(x, e) {
-        return x;
-    }
-    if i == 0 {
-        return e;
-    }
-    let y = at(h, i - 1);
-    if precedes(y, e) { e } else { y }
-}
-
-pub fn inserted(h: Held, e: Entry) -> Held {
-    let n = h.count % ROOM + 1;
-    let mut r = none();
-    let mut i: usize = 0;
-    while i < n {
-        let x = ordered(h, e, i);
-        r = pushed(r, x);
-        i += 1;
-    }
-    r
 }

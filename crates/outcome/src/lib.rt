@@ -26,13 +26,12 @@ use tally::Tally;
 pub fn refused(answer: EventAnswer, book: Book, state: State, tally: Tally) -> Taken
     ensures { result ≡ record { answer = answer; rows = 0; book = book; state = state; tally = tallied tally 0 1 0 } }
 {
-    let t = tally.added(0, 1, 0);
     Taken {
-        answer: answer,
+        answer,
         rows: 0,
-        book: book,
-        state: state,
-        tally: t,
+        book,
+        state,
+        tally: tally.added(0, 1, 0),
     }
 }
 
@@ -40,13 +39,12 @@ pub fn refused(answer: EventAnswer, book: Book, state: State, tally: Tally) -> T
 pub fn accepted(rows: usize, book: Book, next: State, tally: Tally) -> Taken
     ensures { result ≡ record { answer = Accepted; rows = rows; book = book; state = next; tally = tallied tally 1 0 rows } }
 {
-    let t = tally.added(1, 0, rows as u64);
     Taken {
         answer: EventAnswer::Accepted,
-        rows: rows,
-        book: book,
+        rows,
+        book,
         state: next,
-        tally: t,
+        tally: tally.added(1, 0, rows as u64),
     }
 }
 
@@ -54,10 +52,7 @@ pub fn accepted(rows: usize, book: Book, next: State, tally: Tally) -> Taken
 pub fn fits(size: usize, place: usize, rows: usize) -> bool
     ensures { result ≡ leb (place + row_size * rows) size }
 {
-    if place <= size {
-        return rows <= (size - place) / writer::ROW;
-    }
-    false
+    place <= size && rows <= (size - place) / writer::ROW
 }
 
 // Where nothing but the check for space is left: the rows, in words, are written and the next state, in words too, is stored and handed back, or all
@@ -88,19 +83,19 @@ pub fn settled(
         (splice place (gather (row_bytes (state.number + 1) book.variables) (take n (valuations_in words.now))) rows.old)
         rows.old) }
 {
-    if fits(rows.len(), place, n) {
-        let number = state.number + 1;
-        // Bytes 5 and 6 are zero, and each row has values of its own.
-        let shared = RowFields {
-            number: number,
-            variables: book.variables,
-            byte5: 0,
-            byte6: 0,
-            values: [0; 4],
-        };
-        writer::write_rows(rows, place, words, n, shared);
-        let after = state::store(number, next_at, next, held);
-        return accepted(n, book, after, tally);
+    if !fits(rows.len(), place, n) {
+        return refused(EventAnswer::NoSpace, book, state, tally);
     }
-    refused(EventAnswer::NoSpace, book, state, tally)
+    let number = state.number + 1;
+    // Bytes 5 and 6 are zero, and each row has values of its own.
+    let shared = RowFields {
+        number,
+        variables: book.variables,
+        byte5: 0,
+        byte6: 0,
+        values: [0; 4],
+    };
+    writer::write_rows(rows, place, words, n, shared);
+    let after = state::store(number, next_at, next, held);
+    accepted(n, book, after, tally)
 }

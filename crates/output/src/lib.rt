@@ -5,240 +5,176 @@
 ghost use Rattle.std.specs.Prelude.{◌≡◌, ◌<◌, ◌≤◌, length, IfOk, OnErr};
 
 use itoa::Buffer;
+use record::RECORD;
 use row::ROW;
 use std::io;
 use std::io::{Read, Write};
 
-// How much of the output is gathered before it is written.
+// How much of the output is gathered before it is written, and what there is room for: a line more, whatever it says.
 const GATHERED: usize = 65000;
 
-// Bytes of a row: "variable count (byte 4)", "the book number (0 to 7) in byte 5".
+const ROOM: usize = 65536;
+
+// Bytes of a row: "variable count (byte 4)", "the book number (0 to 7) in byte 5", and where the values begin, four bytes to each.
 const VARIABLES: usize = 4;
 
 const BOOK: usize = 5;
 
-// The less of two numbers.
-fn least(a: usize, b: usize) -> usize
-    ensures { (result ≤ a) × (result ≤ b) }
-{
-    if a < b { a } else { b }
+const VALUES: usize = 8;
+
+// Whether rows are printed with their book.
+#[derive(Clone, Copy, PartialEq, Eq)]
+pub enum Rows {
+    OfOneBook,
+    OfSet,
 }
 
-// Writes what is gathered. Here as below an error is the writer's own, and comes only where something had to be written.
-pub fn flush<W: Write>(writer: &mut W, out: &[u8], at: usize) -> io::Result<()>
-    ensures { OnErr result (at ≤ length out.now) }
-{
-    if at <= out.len() {
-        writer.write_all(&out[..at])?;
-    }
-    Ok(())
+// What is gathered for a writer: the first `size` bytes.
+#[derive(Drop)]
+pub struct Listing<W: Write + Drop> {
+    pub writer: W,
+    pub gathered: [u8; ROOM],
+    pub size: usize,
+    ghost inside: { size ≤ 65536 },
 }
 
-// The next record of a reader, into the buffer: how many bytes it has. Where reading fails, what is gathered is written first, and the reader's error
-// is handed on.
-pub fn next_record<E: Read, W: Write>(
-    events: &mut E,
-    bytes: &mut [u8],
-    writer: &mut W,
-    out: &[u8],
-    at: usize,
-) -> io::Result<usize>
-    ensures read { IfOk result (λ n. n ≤ length bytes.new) }
-    ensures failed { OnErr result (length bytes.new ≡ length bytes.old) }
-{
-    match input::fill(events, bytes) {
-        Ok(n) => Ok(n),
-        Err(e) => {
-            flush(writer, out, at)?;
-            Err(e)
+impl<W: Write + Drop> Listing<W> {
+    pub fn new(writer: W) -> Listing<W>
+        ensures { result.size ≡ 0 }
+    {
+        Listing {
+            writer,
+            gathered: [0; ROOM],
+            size: 0,
         }
     }
-}
 
-// Writes what is gathered where less than a line's room is left.
-fn room<W: Write>(writer: &mut W, out: &[u8], at: usize) -> io::Result<usize>
-    ensures { OnErr result (65000 < at) }
-{
-    if at <= GATHERED {
-        return Ok(at);
+    // Writes what is gathered. Here as below an error is the writer's own, and comes only where something had to be written.
+    pub fn flush(&mut self) -> io::Result<()>
+        ensures kept { OnErr result (self.new.gathered ≡ self.old.gathered) }
+        ensures size { OnErr result (self.new.size ≡ self.old.size) }
+        ensures some { OnErr result (0 < self.old.size) }
+    {
+        if 0 < self.size {
+            self.writer.write_all(&self.gathered[..self.size])?;
+            self.size = 0;
+        }
+        Ok(())
     }
-    flush(writer, out, at)?;
-    Ok(0)
-}
 
-// One byte into the buffer.
-fn put(out: &mut [u8], at: usize, b: u8) -> usize {
-    if at < out.len() {
-        out[at] = b;
-        return at + 1;
+    // Writes what is gathered where less than a line's room is left.
+    fn make_room(&mut self) -> io::Result<()>
+        ensures kept { OnErr result (self.new.gathered ≡ self.old.gathered) }
+        ensures size { OnErr result (self.new.size ≡ self.old.size) }
+        ensures full { OnErr result (65000 < self.old.size) }
+    {
+        if GATHERED < self.size {
+            self.flush()?;
+        }
+        Ok(())
     }
-    at
-}
 
-// Some bytes into the buffer.
-fn put_all(out: &mut [u8], at: usize, bytes: &[u8]) -> usize {
-    let mut k = at;
-    let mut i: usize = 0;
-    while i < bytes.len() {
-        k = put(out, k, bytes[i]);
-        i += 1;
+    // As many of the bytes as there is room for.
+    fn put(&mut self, bytes: &[u8]) {
+        let n = bytes.len().min(ROOM - self.size);
+        self.gathered[self.size..self.size + n].copy_from_slice(&bytes[..n]);
+        self.size += n;
     }
-    k
-}
 
-// A number in decimal.
-fn put_number(out: &mut [u8], at: usize, x: u64) -> usize {
-    let mut digits = Buffer::new();
-    put_all(out, at, digits.format(x).as_bytes())
-}
-
-// A byte as a wider number, of which the bound is told.
-fn wide(x: u8) -> u64
-    ensures { result ≤ 255 }
-{
-    x as u64
-}
-
-// A byte of a row.
-fn byte(row: &[u8], at: usize) -> u64
-    ensures { result ≤ 255 }
-{
-    if at < row.len() {
-        return wide(row[at]);
+    // A number in decimal.
+    fn put_number(&mut self, x: u64) {
+        self.put(Buffer::new().format(x).as_bytes());
     }
-    0
-}
 
-// The value of a row's variable, one of four.
-fn value(row: &[u8], variable: usize) -> u64
-    requires { variable ≤ 3 }
-{
-    let at = 8 + variable * 4;
-    let a = byte(row, at);
-    let b = byte(row, at + 1);
-    let c = byte(row, at + 2);
-    let d = byte(row, at + 3);
-    a + b * 256 + c * 65536 + d * 16777216
-}
-
-// The values of a row, and the end of its line.
-fn put_values(out: &mut [u8], at: usize, row: &[u8], variables: usize) -> usize {
-    let n = least(variables, 4);
-    let mut k = at;
-    let mut i: usize = 0;
-    while i < n {
-        k = put(out, k, b' ');
-        k = put_number(out, k, value(row, i));
-        i += 1;
+    // The line of a record: its number, the answer and the row count.
+    fn put_line(&mut self, number: u64, answer: usize, count: usize) -> io::Result<()>
+        ensures kept { OnErr result (self.new.gathered ≡ self.old.gathered) }
+        ensures size { OnErr result (self.new.size ≡ self.old.size) }
+    {
+        self.make_room()?;
+        self.put_number(number);
+        self.put(b" ");
+        self.put_number(answer as u64);
+        self.put(b" ");
+        self.put_number(count as u64);
+        self.put(b"\n");
+        Ok(())
     }
-    put(out, k, b'\n')
-}
 
-// One row: `row` and the values. An error leaves the buffer as it was.
-fn put_row<W: Write>(
-    writer: &mut W,
-    out: &mut [u8],
-    at: usize,
-    row: &[u8],
-    variables: usize,
-) -> io::Result<usize>
-    ensures { OnErr result (out.new ≡ out.old) }
-{
-    let start = room(writer, out, at)?;
-    let k = put_all(out, start, b"row");
-    Ok(put_values(out, k, row, variables))
-}
-
-// One row of a set: `row`, its book, and the values, as many as the row says. An error leaves the buffer as it was.
-fn put_set_row<W: Write>(writer: &mut W, out: &mut [u8], at: usize, row: &[u8]) -> io::Result<usize>
-    ensures { OnErr result (out.new ≡ out.old) }
-{
-    let start = room(writer, out, at)?;
-    let a = put_all(out, start, b"row ");
-    let b = put_number(out, a, byte(row, BOOK));
-    Ok(put_values(out, b, row, byte(row, VARIABLES) as usize))
-}
-
-// The rows of a record, 24 bytes to each.
-pub fn put_rows<W: Write>(
-    writer: &mut W,
-    out: &mut [u8],
-    at: usize,
-    rows: &[u8],
-    count: usize,
-    variables: usize,
-) -> io::Result<usize>
-    ensures { OnErr result (length out.new ≡ length out.old) }
-{
-    let n = least(count, rows.len() / ROW);
-    let mut k = at;
-    let mut i: usize = 0;
-    while i < n {
-        let p = i * ROW;
-        k = put_row(writer, out, k, &rows[p..p + ROW], variables)?;
-        i += 1;
+    // One row: `row`, of a set its book, and the values, as many as the row says.
+    fn put_row(&mut self, row: &[u8], rows: Rows) -> io::Result<()>
+        requires { length row.now ≡ 24 }
+        ensures kept { OnErr result (self.new.gathered ≡ self.old.gathered) }
+        ensures size { OnErr result (self.new.size ≡ self.old.size) }
+    {
+        self.make_room()?;
+        self.put(b"row");
+        if rows == Rows::OfSet {
+            self.put(b" ");
+            self.put_number(row[BOOK] as u64);
+        }
+        for value in row[VALUES..].chunks_exact(4).take(row[VARIABLES] as usize) {
+            self.put(b" ");
+            self.put_number(u32::from_le_bytes([value[0], value[1], value[2], value[3]]) as u64);
+        }
+        self.put(b"\n");
+        Ok(())
     }
-    Ok(k)
-}
 
-// The rows of a record over a set of books.
-pub fn put_set_rows<W: Write>(
-    writer: &mut W,
-    out: &mut [u8],
-    at: usize,
-    rows: &[u8],
-    count: usize,
-) -> io::Result<usize>
-    ensures { OnErr result (length out.new ≡ length out.old) }
-{
-    let n = least(count, rows.len() / ROW);
-    let mut k = at;
-    let mut i: usize = 0;
-    while i < n {
-        let p = i * ROW;
-        k = put_set_row(writer, out, k, &rows[p..p + ROW])?;
-        i += 1;
+    // The next record of a reader: how many bytes it has. Where reading fails, what is gathered is written first, and the reader's error is
+    // handed on.
+    fn next_record<E: Read>(&mut self, events: &mut E, bytes: &mut [u8]) -> io::Result<usize>
+        ensures read { IfOk result (λ n. n ≤ length bytes.new) }
+        ensures failed { OnErr result (length bytes.new ≡ length bytes.old) }
+    {
+        match input::fill(events, bytes) {
+            Ok(n) => Ok(n),
+            Err(e) => {
+                self.flush()?;
+                Err(e)
+            }
+        }
     }
-    Ok(k)
+
+    // All records of a reader, a last short one too: for each its line and its rows, by a call that takes the record and a buffer for rows and
+    // gives the answer's number and how many rows it wrote. So many events were accepted before. A proved loop has to end, and nothing says
+    // that the input does, so it also ends at the largest 64-bit number of a record, which no input reaches.
+    pub fn list<E: Read, F: FnMut(&[u8], &mut [u8]) -> (usize, usize)>(
+        &mut self,
+        events: &mut E,
+        before: u32,
+        buffer: &mut [u8],
+        rows: Rows,
+        mut call: F,
+    ) -> io::Result<()>
+        requires { F.IsAlwaysCallable call }
+    {
+        let mut bytes = [0; RECORD];
+        for number in before as u64 + 1..=u64::MAX {
+            let size = self.next_record(events, &mut bytes)?;
+            if size == 0 {
+                break;
+            }
+            let (answer, count) = call(&bytes[..size], buffer);
+            self.put_line(number, answer, count)?;
+            for row in buffer.chunks_exact(ROW).take(count) {
+                self.put_row(row, rows)?;
+            }
+        }
+        self.flush()
+    }
 }
 
-// The line of a record: its number, the answer and the row count. An error leaves the buffer as it was.
-pub fn put_line<W: Write>(
-    writer: &mut W,
-    out: &mut [u8],
-    at: usize,
-    number: u64,
-    answer: usize,
-    count: usize,
-) -> io::Result<usize>
-    ensures { OnErr result (out.new ≡ out.old) }
-{
-    let start = room(writer, out, at)?;
-    let a = put_number(out, start, number);
-    let b = put(out, a, b' ');
-    let c = put_number(out, b, answer as u64);
-    let d = put(out, c, b' ');
-    let e = put_number(out, d, count as u64);
-    Ok(put(out, e, b'\n'))
-}
-
-// A refused book.
+// A refused book, and of a set which.
 pub fn print_refused<W: Write>(writer: &mut W, number: usize, place: usize) -> io::Result<()> {
-    writer.write_all(b"book ")?;
-    print_answer(writer, number, place)
+    writeln!(writer, "book {number} {place}")
 }
 
-// A refused book of a set.
 pub fn print_refused_of<W: Write>(
     writer: &mut W,
     book: usize,
     number: usize,
     place: usize,
 ) -> io::Result<()> {
-    write!(writer, "book {book} ")?;
-    print_answer(writer, number, place)
-}
-
-fn print_answer<W: Write>(writer: &mut W, number: usize, place: usize) -> io::Result<()> {
-    writeln!(writer, "{number} {place}")
+    writeln!(writer, "book {book} {number} {place}")
 }

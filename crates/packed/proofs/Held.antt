@@ -2,14 +2,14 @@
 -- For the crates that hold labels in lent words.
 use mathlib.Core.Path.{◌≡◌, refl, sym, ap, ◌∙◌}
 use mathlib.Core.List.{List, [], map, Memᴰ}
-use Prim.Native.Nat.{ℕ, ◌≤◌, ◌<◌}
+use Prim.Native.Nat.{ℕ, ◌≤◌}
+use Rattle.std.proofs.Common.{Option, Some, None}
 use native.Mathlib.Omega.{arith}
 use lib.ListN.{length, take, length-take}
 use lib.Seq.{length-take-le}
 use Rattle.laws.specs.Sets.{full, grown}
 use Rattle.laws.proofs.Lists.{mem_map, mem_index, mem_take}
 use Rattle.laws.proofs.Parts.{pad_few}
-use Rattle.laws.proofs.Turns.{counted_few, counted_over, few_counted, over_counted}
 use Rattle.meaning.specs.Labels.{free, Held}
 use Rattle.meaning.specs.Wide.{wide, wide_held}
 use Rattle.automaton.proofs.Held.{held_of_length, held_positions, held_disjunct}
@@ -28,21 +28,12 @@ module _ (n : ℕ) (at w : List ℕ) where
       let a = taken_length w n h in
       held_of_length (take n at) (take n (disjuncts_in w)) (length-take-le n at (omega arith) ∙ sym a) ∙ a
 
-  pub grown_held : (h : List Held) → held_grown n at w ≡ grown h → (n ≤ 128) × (held_in n at w ≡ h)
-  unfolding held_grown
-  grown_held h e = few_counted 128 n (held_in n at w) h e
+  pub grown_held : (h : List Held) → held_grown (Some n) at w ≡ grown h → held_in n at w ≡ h
+  grown_held h e = cc
 
-  pub full_held : held_grown n at w ≡ full → 128 < n
-  unfolding held_grown
-  full_held e = over_counted 128 n (held_in n at w) e
-
-  pub held_grown_law : n ≤ 128 → held_grown n at w ≡ grown (held_in n at w)
-  unfolding held_grown
-  held_grown_law h = counted_few 128 n (held_in n at w) h
-
-  pub held_full : 128 < n → held_grown n at w ≡ full
-  unfolding held_grown
-  held_full h = counted_over 128 n (held_in n at w) h
+pub full_held : (r : Option ℕ) (at w : List ℕ) → held_grown r at w ≡ full → r ≡ None
+full_held None at w e = refl
+full_held (Some n) at w e = cc
 
 -- the positions of what is held
 pub positions_in : (n : ℕ) (at w : List ℕ) → n ≤ 128 → map (λ h. h.position) (held_in n at w) ≡ take n at

@@ -1,7 +1,8 @@
 -- How lent words are read as disjuncts: as many as may be held, four variables to each. Any words say something.
-use Rattle.std.specs.Prelude.{cond, List, map, ℕ, ◌+◌, ◌*◌, eqb, leb, get_or, take, drop}
+use Rattle.std.specs.Prelude.{cond, List, map, Option, ℕ, ◌+◌, ◌*◌, eqb, get_or, take, drop}
 use Rattle.laws.specs.Lists.{numbers}
-use Rattle.laws.specs.Sets.{Grown, full, grown}
+use Rattle.laws.specs.Sets.{Grown}
+use Rattle.places.specs.Counts.{grown_of}
 use Rattle.meaning.specs.Labels.{Entry, bound, free, Disjunct}
 use Rattle.meaning.specs.Room.{exclusion_limit, held_limit}
 use Rattle.meaning.specs.Limits.{variable_limit}
@@ -29,6 +30,6 @@ entries_in w = map (λ j. entry_at w (j * slot_words)) (numbers 0 (held_limit * 
 unfoldable pub disjuncts_in : List ℕ → List Disjunct
 disjuncts_in w = map (λ i. map (λ v. entry_at w (i * disjunct_words + v * slot_words)) (numbers 0 variable_limit)) (numbers 0 held_limit)
 
--- a count within the limit and the words: the set of so many; a greater count is the answer that there is no room
-unfoldable pub grown_in : ℕ → List ℕ → Grown Disjunct
-grown_in n w = cond (leb n held_limit) (grown (take n (disjuncts_in w))) full
+-- what a count and the words say: the set of so many, or that there is no room
+abbrev pub grown_in : Option ℕ → List ℕ → Grown Disjunct
+grown_in r w = grown_of r (disjuncts_in w)

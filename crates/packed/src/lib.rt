@@ -15,22 +15,10 @@ use slot::Slot;
 // How many disjuncts a set may have: "exceeds 128".
 pub const CAPACITY: usize = 128;
 
-// The answer of a set that would have more.
-pub const NO_ROOM: usize = CAPACITY + 1;
-
 // The words of a variable: a code, and its value or room for its exclusions.
 const SLOT_WORDS: usize = 1 + Disjunct::EXCLUSIONS;
 
-// Where those of a disjunct's second, third and fourth variable begin.
-const SECOND: usize = SLOT_WORDS;
-
-const THIRD: usize = 2 * SLOT_WORDS;
-
-const FOURTH: usize = 3 * SLOT_WORDS;
-
-const DISJUNCT_WORDS: usize = Disjunct::VARIABLES * SLOT_WORDS;
-
-pub const WORDS: usize = CAPACITY * DISJUNCT_WORDS;
+pub const WORDS: usize = CAPACITY * Disjunct::VARIABLES * SLOT_WORDS;
 
 pub type Words = [u32; WORDS];
 
@@ -43,22 +31,16 @@ fn read_slot(words: &[u32], at: usize) -> Slot
     ensures { view_slot result ≡ entry_at words.now at }
 {
     let code = words[at];
-    let x = words[at + 1];
     if code == BOUND {
-        return Slot::holding(x);
+        return Slot::holding(words[at + 1]);
     }
+    let mut excluded = [0; Disjunct::EXCLUSIONS];
+    excluded.copy_from_slice(&words[at + 1..at + SLOT_WORDS]);
     Slot {
         bound: false,
         value: 0,
         count: code as usize,
-        excluded: [
-            x,
-            words[at + 2],
-            words[at + 3],
-            words[at + 4],
-            words[at + 5],
-            words[at + 6],
-        ],
+        excluded,
     }
 }
 
@@ -67,12 +49,11 @@ pub fn get(words: &Words, i: usize) -> Disjunct
     requires { i < held_limit }
     ensures { view_disjunct result ≡ get_or (disjuncts_in words.now) i [] }
 {
-    let at = i * DISJUNCT_WORDS;
-    let a = read_slot(words, at);
-    let b = read_slot(words, at + SECOND);
-    let c = read_slot(words, at + THIRD);
-    let d = read_slot(words, at + FOURTH);
-    Disjunct { vars: [a, b, c, d] }
+    let mut d = Disjunct::free();
+    for v in 0..Disjunct::VARIABLES {
+        d.vars[v] = read_slot(words, (i * Disjunct::VARIABLES + v) * SLOT_WORDS);
+    }
+    d
 }
 
 // The words of a variable, two for a value and else seven, from the place of its number j among all variables of all disjuncts.
@@ -84,17 +65,10 @@ fn put_slot(words: &mut [u32], j: usize, s: Slot)
     if s.bound {
         words[at] = BOUND;
         words[at + 1] = s.value;
-        return;
+    } else {
+        words[at] = s.size() as u32;
+        words[at + 1..at + SLOT_WORDS].copy_from_slice(&s.excluded);
     }
-    let n = s.size();
-    let x = s.excluded;
-    words[at] = n as u32;
-    words[at + 1] = x[0];
-    words[at + 2] = x[1];
-    words[at + 3] = x[2];
-    words[at + 4] = x[3];
-    words[at + 5] = x[4];
-    words[at + 6] = x[5];
 }
 
 // The i-th disjunct written over.
@@ -102,13 +76,7 @@ pub fn put(words: &mut Words, i: usize, d: Disjunct)
     requires { i < held_limit }
     ensures { disjuncts_in words.new ≡ set (disjuncts_in words.old) i (view_disjunct d) }
 {
-    let j = i * Disjunct::VARIABLES;
-    let a = d.vars[0];
-    let b = d.vars[1];
-    let c = d.vars[2];
-    let e = d.vars[3];
-    put_slot(words, j, a);
-    put_slot(words, j + 1, b);
-    put_slot(words, j + 2, c);
-    put_slot(words, j + 3, e);
+    for (v, s) in d.vars.iter().enumerate() {
+        put_slot(words, i * Disjunct::VARIABLES + v, *s);
+    }
 }

@@ -1,7 +1,7 @@
 -- An event that none of the checks 9 to 12 refuses: book and state are sound, the state's words count what it holds, and what the pure step leaves in
 -- words are the rows and the next state. For the functions of this crate; `few_values` for those of a set too.
-use mathlib.Core.Path.{◌≡◌, refl, ap, ap₂, ◌∙◌}
-use mathlib.Core.Bool.{Bool, true, false, cond}
+use mathlib.Core.Path.{◌≡◌, refl, sym, ap, ap₂, ◌∙◌}
+use mathlib.Core.Bool.{Bool, true, false, cond, false≢true}
 use mathlib.Core.List.{List, [], Memᴰ}
 use Prim.Native.Nat.{ℕ, suc, ◌+◌, ◌≤◌}
 use native.Mathlib.Numerals.{add-one}
@@ -32,12 +32,13 @@ use Rattle.row.specs.RowBytes.{bytes_of, with_values}
 use Rattle.row.specs.declared.RowFields.{RowFields}
 use Rattle.row.proofs.RowBytes.{bytes_wide}
 use Rattle.calls.specs.Answers.{number_of}
+use Rattle.calls.specs.declared.EventAnswer.{EventAnswer}
 use Rattle.calls.specs.declared.EventAnswer.TheVariants.{Accepted}
-use Rattle.calls.specs.Calls.{rows_by, state_by, decisions}
+use Rattle.calls.specs.Calls.{is_accepted, rows_by, state_by, decisions}
 use Rattle.demands.proofs.Checks.{accepted_zero}
 use Rattle.demands.proofs.States.{lengths}
 use Rattle.transition.specs.declared.Stepped.{Stepped}
-use Rattle.transition.specs.Moves.{Moved, Decided}
+use Rattle.transition.specs.Moves.{Moved}
 use Rattle.transition.proofs.Checks.{first_book, first_state}
 use Rattle.blocks.specs.BookBlock.{book_in}
 use Rattle.blocks.specs.StateBlock.{state_held, state_in, unknown_state}
@@ -53,11 +54,9 @@ pub said_zero : {b : Book} {s : State} (w sw : List ℕ) (bytes : Bytes) → b �
     → number_of (first_failing Accepted (decisions b s bytes)) ≡ 0
 said_zero w sw bytes book state zero = ap₂ (λ b s. number_of (first_failing Accepted (decisions b s bytes))) book state ∙ zero
 
--- what the pure step leaves where its answer has the number 0
-pub passed_moved : {b : Book} {s : State} (bytes : Bytes) {x : Stepped} {at next out : List ℕ}
-    → Decided b s (event_in bytes) (decisions b s bytes) x at next out → number_of (first_failing Accepted (decisions b s bytes)) ≡ 0
-    → Moved b s (event_in bytes) x at next out
-passed_moved bytes {x} d zero = d.moved (d.flag ∙ accepted_zero x.answer (ap number_of d.first ∙ zero))
+-- a refusal of the pure step has a number, so that what no check refuses, the pure step does not refuse
+pub refusal_number : (a : EventAnswer) → is_accepted a ≡ false → number_of a ≡ 0 → ⊥
+refusal_number a refused zero = false≢true (sym refused ∙ accepted_zero a zero)
 
 module _ (b : Book) (s : State) (bytes : Bytes) (zero : number_of (first_failing Accepted (decisions b s bytes)) ≡ 0) where
   book_sound_law : book_sound b ≡ true

@@ -2,7 +2,7 @@
 // every part before any is moved.
 #![tactic(auto)]
 
-ghost use Rattle.std.specs.Prelude.{◌≡◌, suc, ◌+◌, ◌*◌, ◌≤◌, length};
+ghost use Rattle.std.specs.Prelude.{◌≡◌, suc, ◌+◌, ◌*◌, ◌≤◌, length, IfOk, IfErr};
 ghost use Rattle.laws.specs.Checks.{first_failing};
 ghost use Rattle.laws.specs.Lists.{gather};
 ghost use Rattle.laws.specs.Parts.{splice};
@@ -16,33 +16,25 @@ ghost use Rattle.blocks.specs.BookBlock.{book_size, book_in};
 ghost use Rattle.blocks.specs.StateBlock.{state_size, state_in, state_stored};
 ghost use Rattle.parts.specs.Parts.{row_with};
 
+use calls::EventAnswer;
 use row::RowFields;
 
-// The number of the first failing check of 9 to 12, or 0; then how many rows there are.
-#[derive(Clone, Copy)]
-pub struct Judgement {
-    pub number: usize,
-    pub rows: usize,
-}
-
-// What the book would answer to the event, the space for its rows apart. Nothing is moved.
-pub fn judge(book: &[u32], state: &[u32], bytes: &[u8]) -> Judgement
+// What the book would answer to the event, the space for its rows apart: how many rows there are, or its refusal. Nothing is moved.
+pub fn judge(book: &[u32], state: &[u32], bytes: &[u8]) -> Result<usize, EventAnswer>
     requires { (length book.now ≡ book_size) × (length state.now ≡ state_size) }
-    ensures { (result.number ≡ number_of (first_failing Accepted (decisions (book_in book.now) (state_in state.now) bytes.now)))
-        × (result.number ≡ 0 → (result.rows ≡ length (rows_by (book_in book.now) (state_in state.now) (event_in bytes.now)))
-        × (result.rows ≤ row_limit)) }
+    ensures passed { IfOk result (λ n. (number_of (first_failing Accepted (decisions (book_in book.now) (state_in state.now) bytes.now)) ≡ 0)
+        × (n ≡ length (rows_by (book_in book.now) (state_in state.now) (event_in bytes.now)))
+        × (n ≤ row_limit)) }
+    ensures refused { IfErr result (λ a. (number_of a ≡ number_of (first_failing Accepted (decisions (book_in book.now) (state_in state.now) bytes.now)))
+        × (number_of a ≡ 0 → ⊥)) }
 {
     let b = book_block::book_in(book);
     let s = state_block::state_in(state);
     let mut words = [0u32; rows::WORDS];
     let mut next_at = [0u32; state::CAPACITY];
     let mut next = [0u32; packed::WORDS];
-    let r = transition::step(b, s, bytes, &mut next_at, &mut next, &mut words);
-    let a = r.answer;
-    Judgement {
-        number: answers::number_of(a),
-        rows: r.rows,
-    }
+    let r = transition::step(b, s, bytes, &mut next_at, &mut next, &mut words)?;
+    Ok(r.rows)
 }
 
 // An event that the book does not refuse, with space for its rows: they are written from the place on, the next state is stored, and how many rows there
@@ -72,15 +64,18 @@ pub fn advance(
     let mut words = [0u32; rows::WORDS];
     let mut next_at = [0u32; state::CAPACITY];
     let mut next = [0u32; packed::WORDS];
-    let r = transition::step(b, s, bytes, &mut next_at, &mut next, &mut words);
+    // The step accepts, as the `requires` says that no check fails.
+    let Ok(r) = transition::step(b, s, bytes, &mut next_at, &mut next, &mut words) else {
+        unreachable!()
+    };
     let n = r.rows;
     let number = s.number + 1;
     // Each row has values of its own.
     let shared = RowFields {
-        number: number,
+        number,
         variables: b.variables,
-        byte5: byte5,
-        byte6: byte6,
+        byte5,
+        byte6,
         values: [0; 4],
     };
     writer::write_rows(rows, place, &words, n, shared);

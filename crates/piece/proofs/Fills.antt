@@ -20,7 +20,7 @@ module _ (f : ℕ → ℕ) (n : ℕ) where
   pub filled_none : {r : List ℕ} → length r ≡ n → Filled f n 0 r
   filled_none h = record { few = omega arith; long = h; at = λ j l. absurd (omega arith) }
 
-  pub filled_more : (i : ℕ) (r : List ℕ) → i < n → Filled f n i r → Filled f n (i + 1) (set r i (f i))
+  filled_more : (i : ℕ) (r : List ℕ) → i < n → Filled f n i r → Filled f n (i + 1) (set r i (f i))
   filled_more i r h d =
       record {
         few = omega arith;
@@ -31,6 +31,10 @@ module _ (f : ℕ → ℕ) (n : ℕ) where
       go : (j : ℕ) → j < i + 1 → Dec (j ≡ i) → get_or (set r i (f i)) j 0 ≡ f j
       go j l (yes e) = rw e (get_or-set_same r i (f i) 0 (omega arith))
       go j l (no e) = get_or-set_other r i j (f i) 0 e ∙ d.at j (omega arith)
+
+  -- what is written may be any term that f's is equal to
+  pub filled_next : (i : ℕ) (r : List ℕ) (x : ℕ) → i < n → x ≡ f i → Filled f n i r → Filled f n (i + 1) (set r i x)
+  filled_next i r x h e d = rw e (filled_more i r h d)
 
   length_map_numbers : (k : ℕ) → length (map f (numbers k n)) ≡ n
   length_map_numbers k = length-map (numbers k n) f ∙ length_numbers k n

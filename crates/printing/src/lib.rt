@@ -3,48 +3,40 @@
 // number, the answer and the row count, then its rows.
 #![tactic(auto)]
 
-use book::Book;
-use record::RECORD;
+use book::{Book, ReadingAnswer};
+use output::{Listing, Rows};
 use std::io::{Read, Write};
 use std::rt::Files;
 use std::{fs, io};
 use tally::Tally;
 
-// What is lent for rows, for a text and for what is gathered of the output.
+// What is lent for rows, and for a text.
 const BUFFER: usize = 65536;
 
-// All records of a reader, a last short one too: for each its line and its rows. A proved loop has to end, and nothing says that the
-// input does, so it also ends at the largest 64-bit number of a record, which no input reaches. So many events were accepted before: none,
-// but where `listings` shows what comes after 1,000,000.
-fn list<E: Read, W: Write>(
+// The records of a reader, from the state that holds nothing after so many accepted events: none, but where `listings` shows what comes after
+// 1,000,000.
+fn list<E: Read, W: Write + Drop>(
     book: Book,
     events: &mut E,
-    writer: &mut W,
+    writer: W,
     before: u32,
 ) -> io::Result<()> {
-    let mut bytes_space = [0u8; RECORD];
-    let mut rows_space = [0u8; BUFFER];
-    let mut out_space = [0u8; BUFFER];
-    let bytes: &mut [u8] = &mut bytes_space;
-    let rows: &mut [u8] = &mut rows_space;
-    let out: &mut [u8] = &mut out_space;
+    let mut buffer = [0u8; BUFFER];
     let mut state = watch::fresh();
     state.number = before;
     let mut tally = Tally::none();
-    let mut number = before as u64;
-    let mut at: usize = 0;
-    let mut size = input::fill(events, bytes)?;
-    while number < u64::MAX && 0 < size {
-        let r = watch::event(book, state, &bytes[..size], rows, 0, tally);
-        let a = r.answer;
-        number += 1;
-        at = output::put_line(writer, out, at, number, watch::number_of(a), r.rows)?;
-        at = output::put_rows(writer, out, at, rows, r.rows, book.variables)?;
-        state = r.state;
-        tally = r.tally;
-        size = output::next_record(events, bytes, writer, out, at)?;
-    }
-    output::flush(writer, out, at)
+    Listing::new(writer).list(
+        events,
+        before,
+        &mut buffer,
+        Rows::OfOneBook,
+        |bytes: &[u8], rows: &mut [u8]| {
+            let taken = watch::event(book, state, bytes, rows, 0, tally);
+            state = taken.state;
+            tally = taken.tally;
+            (watch::number_of(taken.answer), taken.rows)
+        },
+    )
 }
 
 // The whole of it: the listing of the book in the named file, on the records of a reader. No contract can say what is read or
@@ -60,13 +52,13 @@ fn print_open<R: Files + Print, E: Read>(
     let n = input::fill(&mut file, &mut buffer)?;
     let mut writer = io::writer(rt);
     let r = watch::read(&buffer[..n]);
-    let a = r.answer;
-    let number = book::number_of(a);
-    if number == 0 {
-        let b = r.book;
-        return list(b, events, &mut writer, before);
+    match r.answer {
+        ReadingAnswer::Accepted => list(r.book, events, writer, before),
+        refused => {
+            let (number, place) = (book::number_of(refused), book::place_of(refused));
+            output::print_refused(&mut writer, number, place)
+        }
     }
-    output::print_refused(&mut writer, number, book::place_of(a))
 }
 
 // The listing of `book.txt`, on the records of standard input.

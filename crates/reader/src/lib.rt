@@ -2,39 +2,43 @@
 // For the buyer of the Bench level. No public function has a `requires`.
 #![tactic(auto)]
 
-ghost use Rattle.std.specs.Prelude.{◌≡◌, true, ◌+◌};
+ghost use Rattle.std.specs.Prelude.{◌≡◌, true, ◌+◌, ◌≤◌, length, MatchResult};
+ghost use Rattle.form.specs.Limits.{text_limit};
 ghost use Rattle.form.specs.Text.{is_bytes};
 ghost use Rattle.table.specs.Tables.{name_of};
-ghost use Rattle.book.specs.Books.{reading, name_place, name_bytes};
+ghost use Rattle.book.specs.Answers.{answer_for};
+ghost use Rattle.book.specs.Books.{empty_book, reading, name_place, name_bytes};
 
 use book::{Reading, ReadingAnswer};
 use table::Name;
+use text::Refusal;
+
+// The reading of a text that is not too long, or why it is refused.
+fn short_read(s: &[u8]) -> Result<Reading, Refusal>
+    requires { length s.now ≤ text_limit }
+    ensures { MatchResult result (λ r. r ≡ reading s.now)
+        (λ e. record { answer = answer_for e; book = empty_book; begin_count = 0; end_count = 0 } ≡ reading s.now) }
+{
+    let l = lines::lines_of(s)?;
+    let m = matching::match_from(s, l.table, l.place)?;
+    Ok(Reading {
+        answer: ReadingAnswer::Accepted,
+        book: book::book_of(l.table, m.piece),
+        begin_count: m.piece.begins.count_ones(),
+        end_count: m.piece.ends.count_ones(),
+    })
+}
 
 // The reading of any bytes; that what is lent is bytes, as the theorems about readings ask, a caller has from here.
 pub fn read(s: &[u8]) -> Reading
     ensures { (result ≡ reading s.now) × (is_bytes s.now ≡ true) }
 {
     if book::TEXT_LIMIT < s.len() {
-        return book::refused(1, book::TEXT_LIMIT);
+        return book::refused(ReadingAnswer::TooLong);
     }
-    let l = lines::lines_of(s);
-    if l.fault != 0 {
-        return book::refused(l.fault, l.place);
-    }
-    let t = l.table;
-    let m = matching::match_from(s, t, l.place);
-    if m.fault != 0 {
-        return book::refused(m.fault, m.place);
-    }
-    let x = m.piece;
-    let begins = x.begins;
-    let ends = x.ends;
-    let volume = book::book_of(t, x);
-    Reading {
-        answer: ReadingAnswer::Accepted,
-        book: volume,
-        begin_count: u32::count_ones(begins),
-        end_count: u32::count_ones(ends),
+    match short_read(s) {
+        Ok(r) => r,
+        Err(e) => book::refused(ReadingAnswer::from(e)),
     }
 }
 

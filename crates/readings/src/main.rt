@@ -2,90 +2,73 @@
 // A case: length (two bytes, low first), number (one byte), place (two bytes, low first), then the text.
 #![tactic(auto)]
 
+use std::alloc::Global;
 use std::io::Read;
 use std::{fs, io};
 
-// What is lent for a text.
-const BUFFER: usize = 65536;
+// More than there are cases.
+const MOST_CASES: u32 = 10000;
+
+// A text, with the number of the answer that it must get, and the place beside it.
+#[derive(Drop)]
+struct Case {
+    number: u8,
+    place: u16,
+    text: Vec<u8>,
+}
+
+impl Case {
+    // The next case of a file, as far as it goes, or none at its end.
+    fn read<R: Read>(alloc: Global, file: &mut R) -> io::Result<Option<Case>> {
+        let mut head = [0u8; 5];
+        if input::fill(file, &mut head)? < head.len() {
+            return Ok(None);
+        }
+        let length = u16::from_le_bytes([head[0], head[1]]);
+        let mut text = vec![in alloc; 0u8; usize::from(length)]?;
+        let there = input::fill(file, text.as_mut_slice())?;
+        text.truncate(there);
+        Ok(Some(Case {
+            number: head[2],
+            place: u16::from_le_bytes([head[3], head[4]]),
+            text,
+        }))
+    }
+
+    fn is_right(&self) -> bool {
+        let answer = reader::read(&self.text).answer;
+        book::number_of(answer) == usize::from(self.number)
+            && book::place_of(answer) == usize::from(self.place)
+    }
+}
 
 #[derive(Clone, Copy)]
 struct Score {
-    more: bool,
-    right: u64,
-    wrong: u64,
+    right: u32,
+    wrong: u32,
 }
 
-fn low_first(a: u8, b: u8) -> usize {
-    let x = a as usize;
-    let y = b as usize;
-    x + y * 256
-}
-
-// Fills the first n bytes of a buffer from the file, as far as it goes.
-fn fill<R: Read>(file: &mut R, buffer: &mut [u8], n: usize) -> io::Result<usize> {
-    if n <= buffer.len() {
-        input::fill(file, &mut buffer[..n])
-    } else {
-        Ok(0)
+impl Score {
+    fn count(&mut self, rt: &impl Print, case: &Case) -> io::Result<()> {
+        if case.is_right() {
+            self.right = self.right.saturating_add(1);
+            return Ok(());
+        }
+        let before = self.right.saturating_add(self.wrong);
+        self.wrong = self.wrong.saturating_add(1);
+        println!(rt; "wrong: {before}")
     }
-}
-
-// The answer to the first n bytes of a buffer.
-fn answer(buffer: &[u8], n: usize) -> book::ReadingAnswer {
-    if n <= buffer.len() {
-        let r = reader::read(&buffer[..n]);
-        r.answer
-    } else {
-        book::ReadingAnswer::Accepted
-    }
-}
-
-// One case from the file.
-fn one<R: Read>(rt: &impl Print, file: &mut R, s: Score) -> io::Result<Score> {
-    let mut head = [0u8; 5];
-    let got = input::fill(file, &mut head)?;
-    if got != 5 {
-        return Ok(Score {
-            more: false,
-            right: s.right,
-            wrong: s.wrong,
-        });
-    }
-    let mut text = [0u8; BUFFER];
-    let n = low_first(head[0], head[1]);
-    let length = fill(file, &mut text, n)?;
-    let a = answer(&text, length);
-    if book::number_of(a) == low_first(head[2], 0)
-        && book::place_of(a) == low_first(head[3], head[4])
-    {
-        return Ok(Score {
-            more: true,
-            right: s.right % 100000 + 1,
-            wrong: s.wrong,
-        });
-    }
-    let tried = s.right % 100000 + s.wrong % 100000;
-    println!(rt; "wrong: {tried}")?;
-    Ok(Score {
-        more: true,
-        right: s.right,
-        wrong: s.wrong % 100000 + 1,
-    })
 }
 
 fn main(rt: HostRuntime) -> io::Result<()> {
     let mut file = fs::open(&rt, "cases")?;
-    let mut s = Score {
-        more: true,
-        right: 0,
-        wrong: 0,
-    };
-    let mut turns: u32 = 0;
-    while turns < 10000 && s.more {
-        s = one(&rt, &mut file, s)?;
-        turns += 1;
+    let mut score = Score { right: 0, wrong: 0 };
+    for _ in 0..MOST_CASES {
+        let Some(case) = Case::read(rt.alloc(), &mut file)? else {
+            break;
+        };
+        score.count(&rt, &case)?;
     }
-    let right = s.right;
-    let wrong = s.wrong;
+    let Score { right, wrong } = score;
     println!(rt; "{right} right, {wrong} wrong")
 }

@@ -1,36 +1,36 @@
 -- Laws of the event record: what a record in form says of its bytes, the event in it as the code holds it, and that this event is
 -- well-formed. For the functions of this crate and for the event call.
-use mathlib.Core.Path.{◌≡◌, refl, sym, ap, ◌∙◌}
-use mathlib.Core.Bool.{Bool, true, false}
+use mathlib.Core.Path.{◌≡◌, refl, sym, ap, ap₂, ◌∙◌}
+use mathlib.Core.Bool.{Bool, true, false, true≢false, ◌&&◌}
 use mathlib.Core.List.{List, [], ◌∷◌}
 use mathlib.Core.Logic.{dite}
 use Prim.Native.Nat.{ℕ, ◌+◌, ◌-◌, ◌^◌, ◌≤◌, ◌<◌}
-use native.Mathlib.Numerals.{add-one}
 use native.Mathlib.Decide.{dec_lt}
 use native.Mathlib.Omega.{arith}
 use borrow.Author.Tests.{ltb-true, leb-true, eqb-true, lt-ltb, le-leb, eq-eqb, ne_eqb}
 use lib.Dec.{eqb, leb, ltb}
-use lib.ListN.{length, get_or, take, drop, replicate, length-drop, take-append-drop, drop_of_length-le, get_or-eq_default}
-use lib.Seq.{drop-cons, length-take-le}
+use lib.ListN.{length, get_or, take, drop, replicate, length-drop, take-append-drop, get_or-eq_default}
+use lib.Seq.{length-take-le}
+use Rattle.std.specs.List.{list_all}
+use Rattle.std.specs.Prelude.{is_some, Some, None}
 use Rattle.laws.specs.Lists.{all}
 use Rattle.laws.specs.Parts.{pad}
 use Rattle.laws.proofs.Lists.{and_true_split, all_append, all_at, mem_get_or}
 use Rattle.laws.proofs.Parts.{pad_take}
 use Rattle.meaning.specs.Events as Events
 use Rattle.meaning.specs.Events.{word32, well_formed}
-use Rattle.record.specs.Records.{word_at, arguments_in, is_record, event_in, event_of, view_event, none_decoded, decoded}
+use Rattle.record.specs.Records.{word_at, arguments_in, is_record, event_in, event_of, view_event, decoded}
 
--- Numbers that are zero from a place on.
-module _ (l : List ℕ) (i : ℕ) where
-  pub zero_end : length l ≤ i → all (eqb 0) (drop i l) ≡ true
-  zero_end h = ap (all (eqb 0)) (drop_of_length-le l h)
+-- a number compared with zero, and zero with it
+pub all_zero : (l : List ℕ) → list_all (λ x. eqb x 0) l ≡ all (eqb 0) l
+all_zero [] = refl
+all_zero (x ∷ l) = ap₂ ◌&&◌ (go (eqb 0 x) refl) (all_zero l)
+  where
+    go : (b : Bool) → eqb 0 x ≡ b → eqb x 0 ≡ b
+    go true e = eq-eqb x 0 (sym (eqb-true 0 x e))
+    go false e = ne_eqb x 0 (λ h. true≢false (sym (eq-eqb 0 x (sym h)) ∙ e))
 
-  pub zero_here : i < length l → get_or l i 0 ≡ 0 → all (eqb 0) (drop (i + 1) l) ≡ all (eqb 0) (drop i l)
-  zero_here h e = rw (add-one i, drop-cons l i 0, e)
-
-  pub zero_not : i < length l → (get_or l i 0 ≡ 0 → ⊥) → all (eqb 0) (drop i l) ≡ false
-  zero_not h n = rw (drop-cons l i 0, ne_eqb 0 (get_or l i 0) (λ e. n (sym e)))
-
+-- numbers that are all zero
 zeros : (l : List ℕ) → all (eqb 0) l ≡ true → l ≡ replicate (length l) 0
 zeros [] h = refl
 zeros (x ∷ l) h =
@@ -93,29 +93,29 @@ form_record s f =
     f.rest
 
 -- what is decoded of bytes that are no record
-pub decoded_none : (s : List ℕ) → (Form s → ⊥) → decoded s ≡ none_decoded
+pub decoded_none : (s : List ℕ) → (Form s → ⊥) → decoded s ≡ None
 unfolding decoded
 decoded_none s n = go (is_record s) refl
   where
-    go : (b : Bool) → is_record s ≡ b → decoded s ≡ none_decoded
+    go : (b : Bool) → is_record s ≡ b → decoded s ≡ None
     go true e = absurd (n (record_form s e))
     go false e = rw e
 
-pub decoded_ok : (s : List ℕ) → (decoded s).ok ≡ is_record s
-unfolding decoded none_decoded
+-- an event is decoded of a record in form, and of nothing else
+pub decoded_ok : (s : List ℕ) → is_some (decoded s) ≡ is_record s
+unfolding decoded
 decoded_ok s = go (is_record s) refl
   where
-    go : (b : Bool) → is_record s ≡ b → (decoded s).ok ≡ is_record s
+    go : (b : Bool) → is_record s ≡ b → is_some (decoded s) ≡ is_record s
     go true e = rw e
     go false e = rw e
 
-pub decoded_event : (s : List ℕ) → is_record s ≡ true → (decoded s).event ≡ event_of (event_in s)
+pub decoded_event : (s : List ℕ) → is_record s ≡ true → decoded s ≡ Some (event_of (event_in s))
 unfolding decoded
 decoded_event s h = rw h
 
 -- what is decoded of a record, field by field
-pub decoded_form : (s : List ℕ) → Form s
-    → decoded s ≡ record { ok = true; event = record { kind = get_or s 0 0; count = get_or s 1 0; args = arguments_in s } }
+pub decoded_form : (s : List ℕ) → Form s → decoded s ≡ Some (record { kind = get_or s 0 0; count = get_or s 1 0; args = arguments_in s })
 unfolding decoded event_of event_in
 decoded_form s f =
     let n = arguments_length s in

@@ -1,13 +1,11 @@
 -- Document 01: "Event record, 20 bytes, no header: byte 0 kind (1 to 255); byte 1 argument count (0 to 4); bytes 2 and 3 zero;
 -- four unsigned 32-bit little-endian arguments, zero beyond the count." And how the code holds an event.
-use Rattle.std.specs.Prelude.{Bool, true, false, cond, ◌&&◌, List, map, ℕ, ◌+◌, ◌*◌, eqb, leb, length, get_or, take, drop}
+use Rattle.std.specs.Prelude.{Bool, cond, ◌&&◌, List, map, ℕ, ◌+◌, ◌*◌, eqb, leb, length, get_or, take, drop, Option, Some, None}
 use Rattle.laws.specs.Lists.{all, numbers}
 use Rattle.laws.specs.Parts.{pad}
 use Rattle.meaning.specs.Events as Events
 use Rattle.meaning.specs.Limits.{argument_limit}
-use Rattle.meaning.specs.Meaning.{no_event}
 use Rattle.record.specs.declared.Event.{Event}
-use Rattle.record.specs.declared.Decoded.{Decoded}
 
 -- "Event record, 20 bytes"
 abbrev pub record_size : ℕ
@@ -39,10 +37,6 @@ event_of e = record { kind = e.kind; count = length e.args; args = pad argument_
 unfoldable pub view_event : Event → Events.Event
 view_event e = record { kind = e.kind; args = take e.count e.args }
 
--- nothing that can be used
-unfoldable pub none_decoded : Decoded
-none_decoded = record { ok = false; event = event_of no_event }
-
--- what the bytes of a record hold
-unfoldable pub decoded : List ℕ → Decoded
-decoded s = let e : Decoded = record { ok = true; event = event_of (event_in s) } in cond (is_record s) e none_decoded
+-- what the bytes of a record hold: none where they are out of form
+unfoldable pub decoded : List ℕ → Option Event
+decoded s = cond (is_record s) (Some (event_of (event_in s))) None

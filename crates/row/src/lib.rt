@@ -25,36 +25,15 @@ pub fn row_bytes(r: RowFields) -> [u8; ROW]
     requires { r.variables ≤ variable_limit }
     ensures { result ≡ bytes_of r }
 {
-    let number = r.number;
-    let x = r.values;
-    let a = x[0];
-    let b = x[1];
-    let c = x[2];
-    let d = x[3];
-    [
-        (number % 256) as u8,
-        (number / 256 % 256) as u8,
-        (number / 65536 % 256) as u8,
-        (number / 16777216 % 256) as u8,
-        (r.variables % 256) as u8,
-        r.byte5,
-        r.byte6,
-        0,
-        (a % 256) as u8,
-        (a / 256 % 256) as u8,
-        (a / 65536 % 256) as u8,
-        (a / 16777216 % 256) as u8,
-        (b % 256) as u8,
-        (b / 256 % 256) as u8,
-        (b / 65536 % 256) as u8,
-        (b / 16777216 % 256) as u8,
-        (c % 256) as u8,
-        (c / 256 % 256) as u8,
-        (c / 65536 % 256) as u8,
-        (c / 16777216 % 256) as u8,
-        (d % 256) as u8,
-        (d / 256 % 256) as u8,
-        (d / 65536 % 256) as u8,
-        (d / 16777216 % 256) as u8,
-    ]
+    let mut row = [0; ROW];
+    row[..4].copy_from_slice(&r.number.to_le_bytes());
+    row[4] = r.variables as u8;
+    row[5] = r.byte5;
+    row[6] = r.byte6;
+    let [a, b, c, d] = r.values;
+    row[8..12].copy_from_slice(&a.to_le_bytes());
+    row[12..16].copy_from_slice(&b.to_le_bytes());
+    row[16..20].copy_from_slice(&c.to_le_bytes());
+    row[20..].copy_from_slice(&d.to_le_bytes());
+    row
 }

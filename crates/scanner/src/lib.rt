@@ -1,68 +1,47 @@
-// The second reader: number and place for any text of a book, by documents 01 and 02. One pass over the bytes, with what has been noted so
-// far in lent words; it shares no code with the reader and has no recursion. For the program `texts`, which compares the two.
+// The second reader: number and place for any text of a book, by documents 01 and 02. One pass over the bytes, with what has been noted
+// so far; it shares no code with the reader and has no recursion. For the program `texts`, which compares the two.
 #![tactic(auto)]
 
 mod tokens;
 
-use noted::declared;
+use noted::{Notes, Phase};
+use std::alloc::{AllocError, Global};
 
 // "at most 4,096 bytes"
 const TEXT_BYTES: usize = 4096;
 
-#[derive(Clone, Copy)]
-pub struct Verdict {
-    pub number: usize,
-    pub place: usize,
-}
-
-// The verdict on a text: 0 and 0 where it is accepted. Of the words WORDS are needed, whatever they hold.
-pub fn judge(text: &[u8], work: &mut [u32]) -> Verdict {
-    noted::clear(work);
+// What is noted of a text, read byte by byte to its end: where no fault is, it is accepted.
+pub fn read(alloc: Global, text: &[u8]) -> Result<Notes<'_>, AllocError> {
+    let mut notes = Notes::new(alloc, text);
     if TEXT_BYTES < text.len() {
-        return Verdict {
-            number: 1,
-            place: TEXT_BYTES,
-        };
+        notes.fault(1, TEXT_BYTES);
+        return Ok(notes);
     }
-    scan(text, work);
-    let least = cells::get(work, noted::LEAST) as usize;
-    Verdict {
-        number: least % noted::NUMBERS as usize,
-        place: least / noted::NUMBERS as usize,
+    for (at, b) in text.iter().enumerate() {
+        step(&mut notes, at, Some(*b))?;
     }
+    step(&mut notes, text.len(), None)?;
+    Ok(notes)
 }
 
-// Byte by byte, then the end of the text.
-fn scan(text: &[u8], work: &mut [u32]) {
-    let mut at: usize = 0;
-    while at <= text.len() && cells::get(work, noted::PHASE) != noted::OVER {
-        step(
-            text,
-            work,
-            (at % noted::PLACES) as u32,
-            declared::byte(text, at),
-        );
-        at += 1;
-    }
-}
-
-fn step(text: &[u8], work: &mut [u32], at: u32, b: u32) {
-    let phase = cells::get(work, noted::PHASE);
-    if phase == noted::LINES {
-        header::step(text, work, at, b);
-    } else if phase == noted::PATTERN {
-        tokens::step(text, work, at, b);
-    } else {
-        behind(work, at, b);
+fn step(notes: &mut Notes<'_>, at: usize, byte: Option<u8>) -> Result<(), AllocError> {
+    match notes.phase {
+        Phase::Lines => header::step(notes, at, byte),
+        Phase::Pattern => tokens::step(notes, at, byte),
+        Phase::Behind => {
+            behind(notes, at, byte);
+            Ok(())
+        }
+        Phase::Over => Ok(()),
     }
 }
 
 // "Nothing follows it." Where nothing does, only 7 and 8 are left to judge.
-fn behind(work: &mut [u32], at: u32, b: u32) {
-    cells::put(work, noted::PHASE, noted::OVER);
-    if b == noted::END {
-        tokens::words(work);
+fn behind(notes: &mut Notes<'_>, at: usize, byte: Option<u8>) {
+    notes.phase = Phase::Over;
+    if byte.is_none() {
+        tokens::words(notes);
     } else {
-        noted::fault(work, 2, at);
+        notes.fault(2, at);
     }
 }

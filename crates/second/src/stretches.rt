@@ -1,89 +1,97 @@
 // Which stretches of the events that concern a valuation are words of the pattern: the ends of those of a node that start at an event,
 // as bits, by node and start. A node is made of earlier ones, and of itself from a later start on. For the second matcher.
 use crate::concern;
+use trial::{EVENTS, Event, NODES, Node, SYMBOLS, Trial, Values};
 
-// Starts of a stretch, the last behind all events; those of all entries; and all of them as bits.
-const STARTS: usize = cells::EVENT_LIMIT + 1;
+// Starts of a stretch, the last behind all events.
+const STARTS: usize = EVENTS + 1;
 
-const ENDS_WORDS: usize = cells::ENTRIES * STARTS;
+// The ends of stretches by their start.
+type Ends = [u32; STARTS];
 
-const ALL: u32 = 2097151;
+const NONE: Ends = [0; STARTS];
 
-// Bits of a number.
-const BITS: usize = 32;
-
-// The ends from start i on with entry k.
-fn from(ends: &[u32], k: usize, i: usize) -> u32 {
-    cells::get(
-        ends,
-        k % cells::ENTRIES * STARTS + cells::EVENT_LIMIT - i % STARTS,
-    )
-}
-
-// The ends from some of these starts on.
-fn through(ends: &[u32], k: usize, starts: u32) -> u32 {
-    let mut x: u32 = 0;
-    let mut i: usize = 0;
-    let mut rest = starts;
-    while 0 < rest {
-        x = x | taken(rest, from(ends, k, i));
-        i = i % BITS + 1;
-        rest = rest / 2;
+// The ends of words of the pattern, from any start.
+pub fn ends(trial: &Trial, number: usize) -> u32 {
+    let values = trial.book.values(number);
+    let mut symbols = [NONE; SYMBOLS];
+    for (s, ends) in symbols.iter_mut().enumerate() {
+        *ends = symbol(trial, &values, s);
     }
-    x
+    nodes(trial, &symbols)
 }
 
-// x where the flag's lowest bit is set, else nothing.
-fn taken(flag: u32, x: u32) -> u32 {
-    if flag % 2 == 1 { x } else { 0 }
-}
-
-// A symbol from start i on: the next event that concerns the valuation, if the symbol holds on it. Entry 0 has what holds on each.
-fn symbol(ends: &[u32], s: usize, i: usize) -> u32 {
-    let m = from(ends, 0, i);
-    if m == 0 {
-        return from(ends, s, i % STARTS + 1);
+// Those of the root, after those of all nodes before it.
+fn nodes(trial: &Trial, symbols: &[Ends]) -> u32 {
+    let mut before = [NONE; NODES];
+    for k in 0..NODES {
+        before[k] = node(trial.book.nodes[k], symbols, &before);
     }
-    taken(m >> (s % BITS), 2 << (i % BITS))
+    before
+        .get(trial.book.root)
+        .map_or(0, |ends| ends.iter().fold(0, |all, x| all | x))
 }
 
-// A node from start i on, by its rules.
-fn node(trial: &[u32], ends: &[u32], k: usize, i: usize) -> u32 {
-    let rules = cells::at(trial, k, cells::KIND);
-    let a = cells::at(trial, k, cells::FIRST) as usize;
-    let b = cells::at(trial, k, cells::SECOND) as usize;
-    let first = from(ends, a, i);
-    let parts = taken(rules / cells::ONE, first) | taken(rules / cells::OTHER, from(ends, b, i));
-    let nothing = taken(rules / cells::NOTHING, 1 << (i % BITS));
-    parts | nothing | taken(rules, through(ends, b, first))
+// A symbol from each start on: the next event that was accepted and concerns the valuation, if the symbol holds on it.
+fn symbol(trial: &Trial, values: &Values, s: usize) -> Ends {
+    let mut ends = NONE;
+    let symbol = trial.book.symbols.get(s).and_then(|s| s.as_ref());
+    for i in (0..EVENTS).rev() {
+        ends[i] = match seen(trial, values, i) {
+            None => ends[i + 1],
+            Some(event) if concern::holds(symbol, event, values) => 2 << i,
+            Some(_) => 0,
+        };
+    }
+    ends
 }
 
-fn entry(trial: &[u32], code: u32, ends: &[u32], k: usize, i: usize) -> u32 {
-    if k == 0 {
-        return concern::seen(trial, code, cells::event(trial, i));
+// Event number i of the run, if it was accepted and concerns the valuation.
+fn seen<'a>(trial: &'a Trial, values: &Values, i: usize) -> Option<&'a Event> {
+    let event = trial.event(i)?;
+    if event.accepted && concern::concerns(trial, event, values) {
+        Some(event)
+    } else {
+        None
     }
-    if k < cells::NODES {
-        return symbol(ends, k, i);
-    }
-    node(trial, ends, k, i)
 }
 
-// The ends of words of the pattern, from any start. Symbols, then nodes, each from the last start to the first: what stands for a start
-// behind the last has no ends yet.
-pub fn words(trial: &[u32], code: u32) -> u32 {
-    let root = cells::get(trial, cells::ROOT) as usize % cells::ENTRIES;
-    let mut ends = [0u32; ENDS_WORDS];
-    let mut c: usize = 0;
-    while c < root * STARTS + STARTS {
-        let x = entry(
-            trial,
-            code,
-            &ends,
-            c / STARTS,
-            cells::EVENT_LIMIT - c % STARTS,
-        );
-        ends[c] = x;
-        c += 1;
+// A node from each start on, the last first: what stands for a start behind the last has no ends.
+fn node(node: Node, symbols: &[Ends], nodes: &[Ends]) -> Ends {
+    let mut own = NONE;
+    for i in (0..STARTS).rev() {
+        own[i] = match node {
+            Node::Symbol(s) => from(symbols, s, i),
+            Node::Sequence(a, b) => through(nodes.get(b).unwrap_or(&NONE), from(nodes, a, i)),
+            Node::Alternation(a, b) => from(nodes, a, i) | from(nodes, b, i),
+            Node::Star(a) => 1 << i | repeated(&own, from(nodes, a, i)),
+            Node::Plus(a) => repeated(&own, from(nodes, a, i)),
+            Node::Optional(a) => 1 << i | from(nodes, a, i),
+        };
     }
-    through(&ends, root, ALL)
+    own
+}
+
+// The ends of one of several from a start on.
+fn from(ends: &[Ends], k: usize, start: usize) -> u32 {
+    match ends.get(k) {
+        Some(ends) => ends.get(start).copied().unwrap_or(0),
+        None => 0,
+    }
+}
+
+// The ends of a part, or of the node itself from these on.
+fn repeated(own: &Ends, part: u32) -> u32 {
+    part | through(own, part)
+}
+
+// The ends from some of the starts on.
+fn through(ends: &Ends, starts: u32) -> u32 {
+    let mut all = 0;
+    for (i, x) in ends.iter().enumerate() {
+        if starts >> i & 1 == 1 {
+            all |= x;
+        }
+    }
+    all
 }

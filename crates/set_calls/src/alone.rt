@@ -1,95 +1,77 @@
-// What an event call on a set must answer, and which states it must leave, by the plain call on each book alone. For the calls on a set.
-use crate::left;
+// What an event call on a set must answer, and which states it must leave, by the plain call on each book alone. For the runs of a set.
+use crate::call::{Answered, Call, States};
 use lent_set::{BOOK_WORDS, BOOKS, STATE_WORDS, TALLY_WORDS};
-use row::ROW;
+use trial::BUFFER_BYTES;
 
 // "13 for a row buffer too short", "14 for a set of no books or more than 8", and 9 for a book that is not wholly lent.
 const UNSOUND: usize = 9;
 
 const NO_SPACE: usize = 13;
 
-const BAD_COUNT: usize = 14;
+pub const BAD_COUNT: usize = 14;
 
-const SMALL: usize = 65536;
-
-// The answer, how many rows, and whether the rows of each book by themselves have space.
+// Why no book takes an event: what the count, or the lowest-numbered refusing book, answers; or the rows have no space, be it those of a book by
+// themselves or only those of all books together.
 #[derive(Clone, Copy)]
-pub struct Answer {
-    pub answer: usize,
-    pub rows: usize,
-    pub apart: bool,
+pub enum Refusal {
+    Number(usize),
+    NoSpace,
+    NoSpaceTogether,
 }
 
-fn refused(answer: usize) -> Answer {
-    Answer {
-        answer: answer,
-        rows: 0,
-        apart: false,
-    }
-}
-
-pub fn put_state(state: &[u32; STATE_WORDS], states: &mut [u32], k: usize) {
-    left::put(state, states, k % BOOKS * STATE_WORDS);
-}
-
-// The plain call on book k, from its state among the states on, which becomes the next.
-fn plain(books: &[u32], states: &mut [u32], k: usize, bytes: &[u8]) -> Answer {
-    let mut book = [0u32; BOOK_WORDS];
-    let mut state = [0u32; STATE_WORDS];
-    let mut rows = [0u8; cells::BUFFER_BYTES];
-    let mut tally = [0u64; TALLY_WORDS];
-    let mut n: usize = 0;
-    if !left::take(books, k % BOOKS * BOOK_WORDS, &mut book) {
-        return refused(UNSOUND);
-    }
-    left::take(states, k % BOOKS * STATE_WORDS, &mut state);
-    let a = lent::watch_event(&book, &mut state, bytes, &mut rows, 0, &mut tally, &mut n);
-    put_state(&state, states, k);
-    Answer {
-        answer: a,
-        rows: n,
-        apart: true,
-    }
-}
-
-fn fits(place: usize, rows: usize, space: usize) -> bool {
-    place % SMALL + rows % SMALL * ROW <= space
-}
-
-// The lowest-numbered refusing book decides; then the space for the rows of all books together.
-pub fn expected(
-    books: &[u32],
-    states: &mut [u32],
-    count: usize,
-    bytes: &[u8],
-    space: usize,
-    place: usize,
-) -> Answer {
-    if count == 0 || BOOKS < count {
-        return refused(BAD_COUNT);
-    }
-    let mut apart = true;
-    let mut rows: usize = 0;
-    let mut k: usize = 0;
-    while k < count {
-        let e = plain(books, states, k, bytes);
-        if e.answer != 0 {
-            return refused(e.answer);
+impl Refusal {
+    pub fn number(self) -> usize {
+        match self {
+            Refusal::Number(n) => n,
+            Refusal::NoSpace | Refusal::NoSpaceTogether => NO_SPACE,
         }
-        apart = apart && fits(place, e.rows, space);
-        rows = rows % SMALL + e.rows % SMALL;
-        k += 1;
     }
-    if fits(place, rows, space) {
-        return Answer {
-            answer: 0,
-            rows: rows,
-            apart: apart,
-        };
+}
+
+// How many rows there are.
+pub type Expected = Result<usize, Refusal>;
+
+pub fn answered(expected: Expected) -> Answered {
+    match expected {
+        Ok(rows) => Answered { answer: 0, rows },
+        Err(refusal) => Answered {
+            answer: refusal.number(),
+            rows: 0,
+        },
     }
-    Answer {
-        answer: NO_SPACE,
-        rows: 0,
-        apart: apart,
+}
+
+// The plain call on one book, whose state becomes the next: how many rows.
+fn plain(book: &[u32; BOOK_WORDS], state: &mut [u32; STATE_WORDS], bytes: &[u8]) -> Expected {
+    let mut rows = [0; BUFFER_BYTES];
+    let mut tally = [0; TALLY_WORDS];
+    let mut n = 0;
+    match lent::watch_event(book, state, bytes, &mut rows, 0, &mut tally, &mut n) {
+        0 => Ok(n),
+        answer => Err(Refusal::Number(answer)),
+    }
+}
+
+// The states become the next where the event is taken. The lowest-numbered refusing book decides; then the space for the rows of all books together.
+pub fn expected(call: &Call, states: &mut States) -> Expected {
+    if call.count == 0 || BOOKS < call.count {
+        return Err(Refusal::Number(BAD_COUNT));
+    }
+    let (books, _) = call.books.as_chunks::<BOOK_WORDS>();
+    let mut rows: usize = 0;
+    let mut apart = true;
+    for (book, state) in books.iter().zip(states.iter_mut()).take(call.count) {
+        let n = plain(book, state, call.bytes)?;
+        rows = rows.saturating_add(n);
+        apart = apart && call.fits(n);
+    }
+    if books.len() < call.count {
+        Err(Refusal::Number(UNSOUND))
+    } else if call.fits(rows) {
+        Ok(rows)
+    } else if apart {
+        Err(Refusal::NoSpaceTogether)
+    } else {
+        Err(Refusal::NoSpace)
     }
 }

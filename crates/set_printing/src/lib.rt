@@ -6,16 +6,14 @@
 ghost use Rattle.std.specs.Prelude.{◌^◌, ◌<◌};
 
 use lent_set::{BOOK_WORDS, BOOKS, STATE_WORDS, TALLY_WORDS};
+use output::{Listing, Rows};
 use std::io::{ErrorKind, Read, Write};
 use std::rt::Files;
 use std::{fs, io, str};
 
-// "Event record, 20 bytes". What is lent for rows: 65,536 bytes for each book, of which 16 x 129 rows need 49,536.
-const RECORD: usize = 20;
-
+// What is lent for rows: 65,536 bytes for each book, of which 16 x 129 rows need 49,536; and for a text.
 const ROWS: usize = BOOKS * 65536;
 
-// What is lent for a text, and for what is gathered of the output.
 const BUFFER: usize = 65536;
 
 // Names of texts have four letters, a digit, which is the index, and `.txt`.
@@ -32,37 +30,18 @@ enum Text {
     Unread,
 }
 
-// How many texts were found, and whether there is a set: at least one text, and none refused.
-#[derive(Clone, Copy)]
-struct Found {
-    count: usize,
-    good: bool,
-}
-
-// The words of one book over those of a set, at its index.
-fn put_book(book: &[u32; BOOK_WORDS], books: &mut [u32], k: usize) {
-    let at = k % BOOKS * BOOK_WORDS;
-    if at + BOOK_WORDS <= books.len() {
-        blocks::copy(book, &mut books[at..]);
-    }
-}
-
-// A text from a reader. A refused one is printed.
+// A text from a reader, as the book with an index. A refused one is printed.
 fn read_text<F: Read, W: Write>(
     file: &mut F,
     writer: &mut W,
-    books: &mut [u32],
+    book: &mut [u32; BOOK_WORDS],
     k: usize,
 ) -> io::Result<Text> {
     let mut text = [0u8; BUFFER];
     let n = input::fill(file, &mut text)?;
-    let mut book = [0u32; BOOK_WORDS];
-    let mut place: usize = 0;
-    let mut begins: usize = 0;
-    let mut ends: usize = 0;
-    let number = lent::watch_read(&text[..n], &mut book, &mut place, &mut begins, &mut ends);
+    let (mut place, mut begins, mut ends) = (0, 0, 0);
+    let number = lent::watch_read(&text[..n], book, &mut place, &mut begins, &mut ends);
     if number == 0 {
-        put_book(&book, books, k);
         return Ok(Text::Accepted);
     }
     output::print_refused_of(writer, k, number, place)?;
@@ -73,7 +52,7 @@ fn read_text<F: Read, W: Write>(
 fn read_file<R: Files + Print + Eprint>(
     rt: &R,
     first: [u8; NAME],
-    books: &mut [u32],
+    book: &mut [u32; BOOK_WORDS],
     k: usize,
 ) -> io::Result<Text> {
     let mut name = first;
@@ -83,10 +62,7 @@ fn read_file<R: Files + Print + Eprint>(
         return Ok(Text::Unread);
     };
     match fs::open(rt, path) {
-        Ok(opened) => {
-            let mut file = opened;
-            read_text(&mut file, &mut io::writer(rt), books, k)
-        }
+        Ok(mut file) => read_text(&mut file, &mut io::writer(rt), book, k),
         Err(e) => {
             if 0 < k && e.kind() == ErrorKind::NotFound {
                 return Ok(Text::Missing);
@@ -97,87 +73,57 @@ fn read_file<R: Files + Print + Eprint>(
     }
 }
 
-// The texts from index 0 on, as many as are there, at most eight.
+// The texts from index 0 on, as many as are there, at most eight: how many, if there is a set, at least one text and none refused.
 fn read_files(
     rt: &(impl Files + Print + Eprint),
     first: [u8; NAME],
-    books: &mut [u32],
-) -> io::Result<Found> {
-    let mut good = true;
-    let mut k: usize = 0;
-    while k < BOOKS {
-        let text = read_file(rt, first, books, k)?;
-        match text {
+    books: &mut [[u32; BOOK_WORDS]; BOOKS],
+) -> io::Result<Option<usize>> {
+    let mut refused = false;
+    for (k, book) in books.iter_mut().enumerate() {
+        match read_file(rt, first, book, k)? {
             Text::Accepted => {}
-            Text::Refused => good = false,
-            Text::Missing => return Ok(Found {
-                count: k,
-                good: good,
-            }),
-            Text::Unread => return Ok(Found {
-                count: k,
-                good: false,
-            }),
+            Text::Refused => refused = true,
+            Text::Missing => return Ok(if refused { None } else { Some(k) }),
+            Text::Unread => return Ok(None),
         }
-        k += 1;
     }
-    Ok(Found {
-        count: k,
-        good: good,
-    })
+    Ok(if refused { None } else { Some(BOOKS) })
 }
 
-// All records of a reader, a last short one too. A proved loop has to end, and nothing says that the input does, so it also ends at the largest
-// 64-bit number of a record. N bytes are lent for rows: a parameter, so that no proof computes an array of so many.
-fn list<E: Read, W: Write, const N: usize>(
+// The records of a reader, from fresh states on. N bytes are lent for rows: a parameter, so that no proof computes an array of so many.
+fn list<E: Read, W: Write + Drop, const N: usize>(
     books: &[u32],
     count: usize,
     events: &mut E,
-    writer: &mut W,
+    writer: W,
 ) -> io::Result<()>
     requires { N < 2 ^ 32 }
 {
-    let mut rows = [0u8; N];
-    list_over(books, count, events, writer, &mut rows)
-}
-
-// The same over what is lent for rows.
-fn list_over<E: Read, W: Write>(
-    books: &[u32],
-    count: usize,
-    events: &mut E,
-    writer: &mut W,
-    rows: &mut [u8],
-) -> io::Result<()> {
-    let mut states_space = [0u32; BOOKS * STATE_WORDS];
+    let mut buffer = [0u8; N];
+    let mut states = [0u32; BOOKS * STATE_WORDS];
     let mut tally = [0u64; TALLY_WORDS];
-    let mut bytes_space = [0u8; RECORD];
-    let mut out_space = [0u8; BUFFER];
-    let states: &mut [u32] = &mut states_space;
-    let bytes: &mut [u8] = &mut bytes_space;
-    let out: &mut [u8] = &mut out_space;
-    lent_set::watch_set_fresh(states, count);
-    let mut row_count: usize = 0;
-    let mut number: u64 = 0;
-    let mut at: usize = 0;
-    let mut size = input::fill(events, bytes)?;
-    while number < u64::MAX && 0 < size {
-        let answer = lent_set::watch_set_event(
-            books,
-            states,
-            count,
-            &bytes[..size],
-            rows,
-            0,
-            &mut tally,
-            &mut row_count,
-        );
-        number += 1;
-        at = output::put_line(writer, out, at, number, answer, row_count)?;
-        at = output::put_set_rows(writer, out, at, rows, row_count)?;
-        size = output::next_record(events, bytes, writer, out, at)?;
-    }
-    output::flush(writer, out, at)
+    lent_set::watch_set_fresh(&mut states, count);
+    Listing::new(writer).list(
+        events,
+        0,
+        &mut buffer,
+        Rows::OfSet,
+        |bytes: &[u8], rows: &mut [u8]| {
+            let mut row_count = 0;
+            let answer = lent_set::watch_set_event(
+                books,
+                &mut states,
+                count,
+                bytes,
+                rows,
+                0,
+                &mut tally,
+                &mut row_count,
+            );
+            (answer, row_count)
+        },
+    )
 }
 
 // The whole of it: the listing of the set whose first text has this name, on the records of a reader. No contract can say what is read or written:
@@ -187,18 +133,16 @@ fn print_open<R: Files + Print + Eprint, E: Read>(
     first: [u8; NAME],
     events: &mut E,
 ) -> io::Result<()> {
-    let mut books = [0u32; BOOKS * BOOK_WORDS];
-    let found = read_files(rt, first, &mut books)?;
-    if found.good {
-        list::<_, _, ROWS>(&books, found.count, events, &mut io::writer(rt))?;
+    let mut books = [[0u32; BOOK_WORDS]; BOOKS];
+    match read_files(rt, first, &mut books)? {
+        Some(count) => list::<_, _, ROWS>(books.as_flattened(), count, events, io::writer(rt)),
+        None => Ok(()),
     }
-    Ok(())
 }
 
 // The listing of `book0.txt` and those behind it, on the records of standard input.
 pub fn print(rt: &(impl Files + Print + Eprint + Input)) -> io::Result<()> {
-    let mut events = rt.reader();
-    print_open(rt, *b"book0.txt", &mut events)
+    print_open(rt, *b"book0.txt", &mut rt.reader())
 }
 
 // The listing of a set, by the name of its first text, on the records of another file.

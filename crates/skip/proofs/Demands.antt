@@ -1,11 +1,12 @@
--- What a disjunct gives past a constraint, one demand at a time: none or one disjunct, and one insertion of it. For skip_from
+-- What a disjunct gives past a constraint, one demand at a time: none or one disjunct, and one insertion of it. For exclude_each
 -- and skip_one.
-use mathlib.Core.Path.{◌≡◌, refl, ap, ◌∙◌}
+use mathlib.Core.Path.{◌≡◌, refl, sym, ap, ◌∙◌}
 use mathlib.Core.Bool.{Bool, true, false, cond, ◌&&◌, and-true}
 use mathlib.Core.List.{List, [], ◌∷◌, map}
 use Prim.Native.Nat.{ℕ, zero, suc, ◌+◌, ◌≤◌, ◌<◌}
 use lib.Dec.{leb}
-use lib.ListN.{length, drop, get_or, set}
+use lib.ListN.{length, take, drop, get_or, set}
+use Rattle.std.proofs.Common.{Some}
 use Rattle.laws.specs.Lists.{keep}
 use Rattle.laws.specs.Sets.{insert, Grown, full, grown, within}
 use Rattle.laws.proofs.Lists.{and_true_split}
@@ -13,9 +14,12 @@ use Rattle.meaning.specs.Events as Events
 use Rattle.meaning.specs.Labels.{Entry, Disjunct, entry_of, is_free, exclusions, excluding, exclude, compare_disjuncts, meets, skip_one}
 use Rattle.meaning.specs.Room.{exclusion_limit, held_limit, few_exclusions}
 use Rattle.bounded.specs.Bounded.{grow_few}
+use Rattle.bounded.proofs.Skips.{few_full, few_ascending}
+use Rattle.packed.specs.Sets.{disjuncts_in, grown_in}
+use Rattle.laws.specs.Order.{ascending}
 use Rattle.demand.specs.declared.Constraint.{Constraint}
 use Rattle.demand.specs.Constraints.{view_demand, demands_in, view_constraint}
-use Rattle.demand.proofs.Views.{empty_demand, demands_next}
+use Rattle.demand.proofs.Views.{empty_demand, demands_next, demands_end}
 
 -- the demands of a list whose variable D leaves free, each excluded
 abbrev pub given : Disjunct → List Events.Demand → List Disjunct
@@ -69,24 +73,61 @@ given_ahead c D i g h k =
     ∙ given_cons D (view_demand (get_or c.demands i empty_demand)) (drop (i + 1) (demands_in c)) g
 
 -- d past c by whether they meet
-pub skip_met : (c : Constraint) (D : Disjunct) → meets D (view_constraint c) ≡ true → skip_one (view_constraint c) D ≡ given D (demands_in c)
-unfolding view_constraint
-skip_met c D = go c.ok
-  where
-    go : (b : Bool) → meets D (cond b (Events.demands (demands_in c)) Events.never) ≡ true
-        → skip_one (cond b (Events.demands (demands_in c)) Events.never) D ≡ given D (demands_in c)
-    go true h = rw h
-    go false h = cc
+pub skip_met : (c : Constraint) (D : Disjunct) → meets D (view_constraint (Some c)) ≡ true → skip_one (view_constraint (Some c)) D ≡ given D (demands_in c)
+skip_met c D h = rw h
 
-pub skip_kept : (c : Constraint) (D : Disjunct) → meets D (view_constraint c) ≡ false → skip_one (view_constraint c) D ≡ D ∷ []
-unfolding view_constraint
-skip_kept c D = go c.ok
-  where
-    go : (b : Bool) → meets D (cond b (Events.demands (demands_in c)) Events.never) ≡ false
-        → skip_one (cond b (Events.demands (demands_in c)) Events.never) D ≡ D ∷ []
-    go true h = rw h
-    go false h = refl
+pub skip_kept : (c : Constraint) (D : Disjunct) → meets D (view_constraint (Some c)) ≡ false → skip_one (view_constraint (Some c)) D ≡ D ∷ []
+skip_kept c D h = rw h
 
 -- d itself put among the others
 pub kept_one : (D : Disjunct) (l : List Disjunct) → few_exclusions D ≡ true → grow_few (D ∷ []) (grown l) ≡ within held_limit (insert compare_disjuncts D l)
 kept_one D l h = rw h
+
+-- m disjuncts in the words `out` before the i-th demand of y on D: the set that is wanted is that of these and of what the demands left give
+pub record Excluding (y : Constraint) (D : Disjunct) (base : List Disjunct) (out : List ℕ) (m i : ℕ) : Type 0 where
+  pub few : m ≤ 128
+  pub ordered : ascending compare_disjuncts (take m (disjuncts_in out)) ≡ true
+  pub same : grow_few (given D (drop i (demands_in y))) (grown (take m (disjuncts_in out))) ≡ grow_few (given D (demands_in y)) (grown base)
+
+module _ {y : Constraint} {D : Disjunct} {base : List Disjunct} {out : List ℕ} {m i : ℕ} (g : Excluding y D base out m i) where
+  abbrev whole : Grown Disjunct
+  whole = grow_few (given D (demands_in y)) (grown base)
+
+  pub excluding_all : y.count ≤ i → grown (take m (disjuncts_in out)) ≡ whole
+  excluding_all h = ap (λ ds. grow_few (given D ds) (grown (take m (disjuncts_in out)))) (sym (demands_end y i h)) ∙ g.same
+
+  module _ (h : i < y.count) (k : y.count ≤ length y.demands) (few : few_exclusions D ≡ true) where
+    abbrev demand : Events.Demand
+    demand = view_demand (get_or y.demands i empty_demand)
+
+    abbrev l : List Disjunct
+    l = take m (disjuncts_in out)
+
+    abbrev later : List Disjunct
+    later = given D (drop (i + 1) (demands_in y))
+
+    -- an answer by what the later demands give into a set, where this one gives it
+    by_later : (a : Grown Disjunct) → a ≡ grow_few (given D (demand ∷ [])) (grown l) → grow_few later a ≡ whole
+    by_later a e = ap (grow_few later) e ∙ sym (given_ahead y D i (grown l) h k) ∙ g.same
+
+    pub excluding_passed : is_free (entry_of D demand.variable) ≡ false → Excluding y D base out m (i + 1)
+    excluding_passed f = record { few = g.few; ordered = g.ordered; same = by_later (grown l) (sym (given_none D demand l f)) }
+
+    module _ (f : is_free (entry_of D demand.variable) ≡ true) where
+      -- a seventh exclusion
+      pub excluding_seventh : fits D demand ≡ false → full ≡ whole
+      excluding_seventh e = sym (few_full later) ∙ by_later full (sym (given_one D demand l f few false e))
+
+      module _ (E : Disjunct) (ok : fits D demand ≡ true) (e : E ≡ exclude D demand) where
+        put : (a : Grown Disjunct) → a ≡ within held_limit (insert compare_disjuncts E l) → a ≡ grow_few (given D (demand ∷ [])) (grown l)
+        put a p = p ∙ ap (λ F. within held_limit (insert compare_disjuncts F l)) e ∙ sym (given_one D demand l f few true ok)
+
+        pub excluding_full : full ≡ within held_limit (insert compare_disjuncts E l) → full ≡ whole
+        excluding_full p = sym (few_full later) ∙ by_later full (put full p)
+
+        pub excluding_more : (out' : List ℕ) (m' : ℕ) → m' ≤ 128 → grown_in (Some m') out' ≡ within held_limit (insert compare_disjuncts E l)
+            → Excluding y D base out' m' (i + 1)
+        excluding_more out' m' c p =
+            let r = take m' (disjuncts_in out') in
+            let q = put (grown r) p in
+            record { few = c; ordered = few_ascending (given D (demand ∷ [])) l r g.ordered (sym q); same = by_later (grown r) q }

@@ -30,9 +30,9 @@ module _ (s : Slot) (x : ℕ) where
   excluding_free h = rw (view_free s h)
 
   -- a slot that stays as it is has room
-  pub kept_slot : length s.excluded ≡ 6 → excluding (view_slot s) x ≡ view_slot s
-      → (true ≡ leb (length (exclusions (excluding (view_slot s) x))) 6) × (true ≡ true → view_slot s ≡ excluding (view_slot s) x)
-  kept_slot l e = (sym (ap (λ y. leb (length (exclusions y)) 6) e ∙ few_slot s l), λ t. sym e)
+  pub kept_room : length s.excluded ≡ 6 → excluding (view_slot s) x ≡ view_slot s
+      → true ≡ leb (length (exclusions (excluding (view_slot s) x))) 6
+  kept_room l e = sym (ap (λ y. leb (length (exclusions y)) 6) e ∙ few_slot s l)
 
   -- the slot is free, and counts n numbers, of which k are before x
   module _ (n k : ℕ) (h : s.bound ≡ false) (p : n ≡ length (exclusions (view_slot s))) (q : k ≡ smaller x (exclusions (view_slot s))) where

@@ -1,4 +1,4 @@
--- A slot against the entry that it holds, and the numbers of a comparison's answers. For the functions of this crate and for
+-- A slot against the entry that it holds, and the answers of a comparison. For the functions of this crate and for
 -- the disjunct.
 use mathlib.Core.Path.{◌≡◌, refl, ap, ◌∙◌}
 use mathlib.Core.Bool.{Bool, true, false, cond}
@@ -8,10 +8,12 @@ use native.Mathlib.Omega.{arith}
 use lib.Dec.{leb}
 use lib.ListN.{length, take, length-take}
 use borrow.Author.Tests.{le-leb}
+use Rattle.laws.specs.Order.{and_then}
 use Rattle.laws.specs.Parts.{pad}
 use Rattle.laws.proofs.Parts.{pad_take}
 use Rattle.meaning.specs.Labels.{Entry, bound, free, exclusions}
 use Rattle.slot.specs.declared.Slot.{Slot}
+use Rattle.slot.specs.declared.Order.TheVariants.{Same, After}
 use Rattle.slot.specs.Slots.{view_slot, slot_of, rank}
 use Rattle.slot.proofs.Insertions.{retaken}
 
@@ -62,19 +64,30 @@ few_excluded s h = go s.bound
 pub few_slot : (s : Slot) → length s.excluded ≡ 6 → leb (length (exclusions (view_slot s))) 6 ≡ true
 few_slot s h = few_excluded s (omega arith)
 
--- a comparison by its number
-pub rank_before : (o : Ordering) → (rank o ≡ 2 → ⊥) → (rank o ≡ 1 → ⊥) → o ≡ Ordering.lt
+-- a comparison by its answer
+pub rank_before : (o : Ordering) → (rank o ≡ After → ⊥) → (rank o ≡ Same → ⊥) → o ≡ Ordering.lt
 rank_before Ordering.lt h k = refl
 rank_before Ordering.eq h k = absurd (k refl)
 rank_before Ordering.gt h k = absurd (h refl)
 
 pub rank_equal : (a b : Ordering) → rank a ≡ rank b → a ≡ b
 rank_equal Ordering.lt Ordering.lt h = refl
-rank_equal Ordering.lt Ordering.eq h = absurd (omega arith)
-rank_equal Ordering.lt Ordering.gt h = absurd (omega arith)
-rank_equal Ordering.eq Ordering.lt h = absurd (omega arith)
+rank_equal Ordering.lt Ordering.eq h = cc
+rank_equal Ordering.lt Ordering.gt h = cc
+rank_equal Ordering.eq Ordering.lt h = cc
 rank_equal Ordering.eq Ordering.eq h = refl
-rank_equal Ordering.eq Ordering.gt h = absurd (omega arith)
-rank_equal Ordering.gt Ordering.lt h = absurd (omega arith)
-rank_equal Ordering.gt Ordering.eq h = absurd (omega arith)
+rank_equal Ordering.eq Ordering.gt h = cc
+rank_equal Ordering.gt Ordering.lt h = cc
+rank_equal Ordering.gt Ordering.eq h = cc
 rank_equal Ordering.gt Ordering.gt h = refl
+
+-- a first comparison that finds a difference decides; one that finds none leaves it to the second
+pub then_first : (p q : Ordering) → (rank p ≡ Same → ⊥) → rank (and_then p q) ≡ rank p
+then_first Ordering.lt q h = refl
+then_first Ordering.eq q h = absurd (h refl)
+then_first Ordering.gt q h = refl
+
+pub then_second : (p q : Ordering) → rank p ≡ Same → and_then p q ≡ q
+then_second Ordering.lt q h = cc
+then_second Ordering.eq q h = refl
+then_second Ordering.gt q h = cc

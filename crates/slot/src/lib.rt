@@ -1,17 +1,18 @@
 // What a disjunct says of one variable: a value, or free with up to six excluded values. For the disjunct; the order is in `ordering`.
 #![tactic(auto)]
 
-ghost use Rattle.std.specs.Prelude.{◌≡◌, true, false, [], ◌∷◌, ◌++◌, suc, ◌≤◌, ◌<◌, eqb, leb, length, take, drop};
+ghost use Rattle.std.specs.Prelude.{◌≡◌, true, false, [], ◌∷◌, ◌++◌, suc, ◌≤◌, ◌<◌, eqb, leb, length, take, drop, is_some, IfSome};
+ghost use Prim.Native.Nat.{compare};
 ghost use Rattle.laws.specs.Lists.{any};
 ghost use Rattle.meaning.specs.Labels as Labels;
 ghost use Rattle.meaning.specs.Room.{exclusion_limit};
-ghost use Rattle.slot.specs.Slots.{view_slot, slot_of, smaller};
+ghost use Rattle.slot.specs.Slots.{view_slot, slot_of, smaller, rank};
 
 // "at most 6 excluded values"
 pub const EXCLUSIONS: usize = 6;
 
 // The first `count` exclusions of a free variable, ascending; a bound one has its value and no exclusions.
-#[derive(Clone, Copy)]
+#[derive(Clone, Copy, PartialEq, Eq)]
 pub struct Slot {
     pub bound: bool,
     pub value: u32,
@@ -19,19 +20,28 @@ pub struct Slot {
     pub excluded: [u32; EXCLUSIONS],
 }
 
-// A slot with one more exclusion, or (ok false) the slot as it was, since it would be the seventh.
-#[derive(Clone, Copy)]
-pub struct Excluded {
-    pub ok: bool,
-    pub slot: Slot,
+// The answers of a comparison. The product names nothing of `std` or `core`, so this is no `std::cmp::Ordering`.
+#[derive(Clone, Copy, PartialEq, Eq)]
+pub enum Order {
+    Before,
+    Same,
+    After,
 }
 
-// The answers of a comparison.
-pub const BEFORE: u32 = 0;
-
-pub const SAME: u32 = 1;
-
-pub const AFTER: u32 = 2;
+impl Order {
+    // Two numbers compared.
+    pub fn of(x: u64, y: u64) -> Order
+        ensures { result ≡ rank (compare x y) }
+    {
+        if x < y {
+            Order::Before
+        } else if x == y {
+            Order::Same
+        } else {
+            Order::After
+        }
+    }
+}
 
 impl Slot {
     pub fn free() -> Slot
@@ -61,12 +71,10 @@ impl Slot {
         ensures { (result ≡ length (Labels.exclusions (view_slot self))) × (result ≤ exclusion_limit) }
     {
         if self.bound {
-            return 0;
+            0
+        } else {
+            self.count.min(EXCLUSIONS)
         }
-        if EXCLUSIONS < self.count {
-            return EXCLUSIONS;
-        }
-        self.count
     }
 
     // How many of the excluded values stand before x: the smaller ones at the beginning.
@@ -74,30 +82,13 @@ impl Slot {
         ensures { (result ≡ smaller x (Labels.exclusions (view_slot self))) × (result ≤ exclusion_limit) }
     {
         let n = self.size();
-        let xs = self.excluded;
-        let mut i: usize = 0;
-        while i < n {
-            if x <= xs[i] {
-                return i;
-            }
-            i += 1;
-        }
-        n
+        self.excluded[..n].iter().position(|y| x <= *y).unwrap_or(n)
     }
 
     fn excludes(self, x: u32) -> bool
         ensures { result ≡ any (eqb x) (Labels.exclusions (view_slot self)) }
     {
-        let n = self.size();
-        let xs = self.excluded;
-        let mut i: usize = 0;
-        while i < n {
-            if xs[i] == x {
-                return true;
-            }
-            i += 1;
-        }
-        false
+        self.excluded[..self.size()].contains(&x)
     }
 
     // Whether the variable may have the value x.
@@ -105,51 +96,34 @@ impl Slot {
         ensures { result ≡ Labels.admits (view_slot self) x }
     {
         if self.bound {
-            return self.value == x;
+            self.value == x
+        } else {
+            !self.excludes(x)
         }
-        let no = self.excludes(x);
-        !no
     }
 
-    // x among the exclusions of a free variable, in its place.
-    pub fn excluding(self, x: u32) -> Excluded
-        ensures { (result.ok ≡ leb (length (Labels.exclusions (Labels.excluding (view_slot self) x))) exclusion_limit)
-            × (result.ok ≡ true → view_slot result.slot ≡ Labels.excluding (view_slot self) x)
-            × (result.ok ≡ false → result.slot ≡ self) }
+    // x among the exclusions of a free variable, in its place; none where it would be the seventh.
+    pub fn excluding(self, x: u32) -> Option<Slot>
+        ensures room { is_some result ≡ leb (length (Labels.exclusions (Labels.excluding (view_slot self) x))) exclusion_limit }
+        ensures slot { IfSome result (λ s. view_slot s ≡ Labels.excluding (view_slot self) x) }
     {
         if self.bound {
-            return Excluded {
-                ok: true,
-                slot: self,
-            };
+            return Some(self);
         }
         let n = self.size();
         let k = self.insertion_point(x);
-        let xs = self.excluded;
-        if k < n {
-            if xs[k] == x {
-                return Excluded {
-                    ok: true,
-                    slot: self,
-                };
-            }
+        if k < n && self.excluded[k] == x {
+            return Some(self);
         }
         if n == EXCLUSIONS {
-            return Excluded {
-                ok: false,
-                slot: self,
-            };
+            return None;
         }
-        let ys = opened(xs, k, n, x);
-        Excluded {
-            ok: true,
-            slot: Slot {
-                bound: false,
-                value: 0,
-                count: n + 1,
-                excluded: ys,
-            },
-        }
+        Some(Slot {
+            bound: false,
+            value: 0,
+            count: n + 1,
+            excluded: opened(self.excluded, k, n, x),
+        })
     }
 
     // The same slot with all that is not counted zero.
@@ -161,11 +135,7 @@ impl Slot {
         }
         let n = self.size();
         let mut xs = self.excluded;
-        let mut i = n;
-        while i < EXCLUSIONS {
-            xs[i] = 0;
-            i += 1;
-        }
+        xs[n..].fill(0);
         Slot {
             bound: false,
             value: 0,
@@ -176,16 +146,11 @@ impl Slot {
 }
 
 // The first n numbers with x put at k, the later ones moved up by one.
-fn opened(xs: [u32; EXCLUSIONS], k: usize, n: usize, x: u32) -> [u32; EXCLUSIONS]
+fn opened(mut xs: [u32; EXCLUSIONS], k: usize, n: usize, x: u32) -> [u32; EXCLUSIONS]
     requires { (k ≤ n) × (n < exclusion_limit) }
     ensures { take (suc n) result ≡ take k xs ++ x ∷ drop k (take n xs) }
 {
-    let mut ys = xs;
-    ys[k] = x;
-    let mut i = k;
-    while i < n {
-        ys[i + 1] = xs[i];
-        i += 1;
-    }
-    ys
+    xs.copy_within(k..n, k + 1);
+    xs[k] = x;
+    xs
 }

@@ -16,6 +16,8 @@ use Rattle.meaning.specs.Labels as Labels
 use Rattle.meaning.specs.Wide.{wide}
 use Rattle.automaton.proofs.Held.{held_of_length}
 use Rattle.bounded.proofs.WideDisjuncts.{wide_compare}
+use Rattle.slot.specs.declared.Order.{Order}
+use Rattle.slot.specs.declared.Order.TheVariants.{Before}
 use Rattle.slot.specs.Slots.{rank}
 use Rattle.disjunct.specs.declared.Disjunct.{Disjunct}
 use Rattle.disjunct.specs.Disjuncts.{view_disjunct, disjunct_of}
@@ -34,10 +36,15 @@ less_false a b h = go (compare a b) refl
     go Ordering.eq e = refl
     go Ordering.gt e = refl
 
-less_rank : (o : Ordering) → eqb (rank o) 0 ≡ is_less o
-less_rank Ordering.lt = refl
-less_rank Ordering.eq = refl
-less_rank Ordering.gt = refl
+less_rank : (o : Ordering) → rank o ≡ Before → true ≡ is_less o
+less_rank Ordering.lt h = refl
+less_rank Ordering.eq h = cc
+less_rank Ordering.gt h = cc
+
+more_rank : (o : Ordering) → (rank o ≡ Before → ⊥) → false ≡ is_less o
+more_rank Ordering.lt h = absurd (h refl)
+more_rank Ordering.eq h = refl
+more_rank Ordering.gt h = refl
 
 -- two held disjuncts at different positions
 pub held_before : (p q : ℕ) (D E : Labels.Disjunct) → p < q → true ≡ is_less (compare_held (held_at p D) (held_at q E))
@@ -58,14 +65,30 @@ tidied_compare n d e g h =
     ∙ wide_compare D E (length-take n (view_disjunct d) ∙ rw (view_length d g, ← view_length e h) (sym (length-take n (view_disjunct e))))
 
 -- two held disjuncts at one position, by the answer o to the comparison of their tidied forms
-pub held_same : (p q n : ℕ) (d e x y : Disjunct) (o : ℕ) → length d.vars ≡ 4 → length e.vars ≡ 4 → q ≤ p → p ≤ q
-    → x ≡ disjunct_of (take n (view_disjunct d)) → y ≡ disjunct_of (take n (view_disjunct e))
-    → o ≡ rank (compare_disjuncts (view_disjunct x) (view_disjunct y))
-    → eqb o 0 ≡ is_less (compare_held (held_at p (take n (view_disjunct d))) (held_at q (take n (view_disjunct e))))
-held_same p q n d e x y o g h j k a b r =
-    let z : p ≡ q = omega arith in
-    rw (z, compare_order.self q, r, a, b, tidied_compare n d e g h)
-    (less_rank (compare_disjuncts (take n (view_disjunct d)) (take n (view_disjunct e))))
+module _ (p q n : ℕ) (d e x y : Disjunct) {o : Order} (g : length d.vars ≡ 4) (h : length e.vars ≡ 4) (z : p ≡ q)
+    (a : x ≡ disjunct_of (take n (view_disjunct d))) (b : y ≡ disjunct_of (take n (view_disjunct e)))
+    (r : o ≡ rank (compare_disjuncts (view_disjunct x) (view_disjunct y))) where
+  -- how the two compare
+  same : Ordering
+  same = compare_disjuncts (take n (view_disjunct d)) (take n (view_disjunct e))
+
+  told : o ≡ rank same
+  unfolding same
+  told = r ∙ rw (a, b, tidied_compare n d e g h)
+
+  held_same : o ≡ Before → true ≡ is_less (compare_held (held_at p (take n (view_disjunct d))) (held_at q (take n (view_disjunct e))))
+  unfolding same
+  held_same k = rw (z, compare_order.self q) (less_rank same (sym told ∙ k))
+
+  held_other : (o ≡ Before → ⊥) → false ≡ is_less (compare_held (held_at p (take n (view_disjunct d))) (held_at q (take n (view_disjunct e))))
+  unfolding same
+  held_other k = rw (z, compare_order.self q) (more_rank same (λ m. k (told ∙ m)))
+
+  -- by the answer of a test whether o is `Before`
+  pub held_told : (t : Bool) → (t ≡ true → o ≡ Before) → (t ≡ false → o ≡ Before → ⊥)
+      → t ≡ is_less (compare_held (held_at p (take n (view_disjunct d))) (held_at q (take n (view_disjunct e))))
+  held_told true f k = held_same (f refl)
+  held_told false f k = held_other (k refl)
 
 -- what is held, by its index
 held_of_at : (ps : List ℕ) (l : List Labels.Disjunct) (i a : ℕ) (D : Labels.Disjunct) (h : Held) → i < length ps → i < length l

@@ -7,9 +7,22 @@ use Prim.Native.Nat.{ℕ, suc, ◌+◌, ◌-◌, ◌≤◌, ◌<◌, Ordering}
 use native.Mathlib.Omega.{arith}
 use lib.ListN.{length, take, drop, get_or, length-drop}
 use lib.Seq.{drop-cons, get_or-take}
+use Rattle.std.specs.List.{list_all}
 use Rattle.laws.specs.Lists.{all}
 use Rattle.laws.specs.Order.{is_less, ascending}
 use Rattle.laws.proofs.Lists.{taken_cons, taken_none}
+
+-- a test of every element, in the words of the library and in ours
+pub all_told : {A : Type 0} (f : A → Bool) (xs : List A) → list_all f xs ≡ all f xs
+all_told f [] = refl
+all_told f (x ∷ xs) = ap (f x &&◌) (all_told f xs)
+
+-- two tests joined by `&&`: the first is true and the second is what they give, or the first is false
+pub both_second : {u v r a b : Bool} → u ≡ a → u ≡ true → v ≡ r → r ≡ b → v ≡ (a && b)
+both_second {b = b} p q e f = e ∙ f ∙ ap (◌&& b) (sym q ∙ p)
+
+pub both_first : {u v a : Bool} (b : Bool) → u ≡ a → u ≡ false → v ≡ u → v ≡ (a && b)
+both_first b p q e = e ∙ q ∙ ap (◌&& b) (sym q ∙ p)
 
 -- the first n elements, from the element i on
 abbrev pub ahead : {A : Type 0} → ℕ → ℕ → List A → List A

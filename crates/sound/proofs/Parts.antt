@@ -7,7 +7,7 @@ use Prim.Native.Nat.{ℕ, zero, suc, compare, ◌+◌, ◌*◌, ◌%◌, ◌^◌
 use native.Mathlib.Nat.{one-mul, mod-lt}
 use native.Mathlib.Numerals.{add-one}
 use native.Mathlib.Omega.{arith}
-use borrow.Author.Tests.{lt-ltb, le-ltb, le-leb, lt-leb, leb-true, eq-eqb, ne_eqb}
+use borrow.Author.Tests.{lt-ltb, le-ltb, le-leb, lt-leb, leb-true, leb-false, eq-eqb, ne_eqb}
 use lib.Dec.{eqb, leb, ltb}
 use lib.ListN.{length, take, length-map, length-take}
 use lib.Pow.{shl_exact}
@@ -15,7 +15,7 @@ use lib.Seq.{length-take-le}
 use Rattle.laws.specs.Bits.{bit}
 use Rattle.laws.specs.Lists.{all}
 use Rattle.laws.specs.Order.{ascending}
-use Rattle.laws.proofs.Lists.{and_swap, and_front, all_map, all_take, all_agree, mem_take}
+use Rattle.laws.proofs.Lists.{and_swap, and_true_split, and_front, all_map, all_take, all_agree, mem_take}
 use Rattle.laws.proofs.Maps.{take_map}
 use Rattle.meaning.specs.Events.{word32}
 use Rattle.meaning.specs.Book.{sound_parameter, sound_symbol, sound_mask, sound_book}
@@ -52,11 +52,11 @@ pub slot_bound : (s : Slot) → Words s → s.bound ≡ true → slot_sound s �
 unfolding slot_sound slot_counts view_slot
 slot_bound s w h = rw (h, w.value) (and-true (leb s.count 0) ∙ leb_zero s.count)
 
-pub slot_many : (s : Slot) → s.bound ≡ false → 6 < s.count → slot_sound s ≡ false
+slot_many : (s : Slot) → s.bound ≡ false → 6 < s.count → slot_sound s ≡ false
 unfolding slot_sound slot_counts
 slot_many s h k = rw (h, lt-leb s.count 6 k)
 
-pub slot_free : (s : Slot) → Words s → s.bound ≡ false → s.count ≤ 6 → slot_sound s ≡ ascending compare (take s.count s.excluded)
+slot_free : (s : Slot) → Words s → s.bound ≡ false → s.count ≤ 6 → slot_sound s ≡ ascending compare (take s.count s.excluded)
 unfolding slot_sound slot_counts view_slot
 slot_free s w h k =
     let n = length-take s.count s.excluded in
@@ -78,6 +78,9 @@ pub symbol_many : (v : ℕ) (y : Symbol) → 4 < y.count → symbol_sound v y �
 unfolding symbol_sound symbol_counts
 symbol_many v y h = rw (lt-leb y.count 4 h)
 
+abbrev pub one_parameter : ℕ → Parameter → Bool
+one_parameter v p = leb p.tag 2 && sound_parameter v (view_parameter p)
+
 pub symbol_parts : (v : ℕ) (y : Symbol) → y.count ≤ 4
     → symbol_sound v y
     ≡ (leb 1 y.kind && leb y.kind 255 && all (λ p. leb p.tag 2 && sound_parameter v (view_parameter p)) (take y.count y.parameters))
@@ -92,6 +95,15 @@ symbol_parts v y h =
     let named : Parameter → Bool = λ p. sound_parameter v (view_parameter p) in
     rw (le-leb y.count 4 h, le-leb (length (map view_parameter ps)) 4 few, and-true k, all_map (sound_parameter v) view_parameter ps, all_and tag named ps)
     (and_front (all tag ps) k (all named ps))
+
+pub symbol_told : (v : ℕ) (y : Symbol)
+    → symbol_sound v y ≡ (leb y.count 4 && (leb 1 y.kind && leb y.kind 255) && all (one_parameter v) (take y.count y.parameters))
+symbol_told v y = go (leb y.count 4) refl
+  where
+    go : (t : Bool) → leb y.count 4 ≡ t
+        → symbol_sound v y ≡ (t && (leb 1 y.kind && leb y.kind 255) && all (one_parameter v) (take y.count y.parameters))
+    go true e = symbol_parts v y (leb-true y.count 4 e)
+    go false e = symbol_many v y (leb-false y.count 4 e)
 
 -- a mask of positions: below 2 ^ (n + 1), as a shifted one says, and even
 shifted : (n : ℕ) → n ≤ 31 → 1 * 2 ^ (n + 1) % 2 ^ 64 ≡ 2 ^ suc n
@@ -110,18 +122,25 @@ pub mask_above : (n m : ℕ) → n ≤ 31 → 1 * 2 ^ (n + 1) % 2 ^ 64 ≤ m →
 mask_above n m h k = le-ltb m (1 * 2 ^ (n + 1) % 2 ^ 64) k ∙ sym (ap (λ t. t && not (bit 0 m)) (le-ltb m (2 ^ suc n) (rw (shifted n h) at k)))
 
 -- the pattern's share of a book: its positions, then masks and occurrences
-pattern_and : (o b e f : Bool) → (o && b && e && f && true) ≡ (b && e && (o && f))
-pattern_and true b e f = and-true (b && e && f)
-pattern_and false b e f = sym (and-false (b && e))
+pattern_and : (t p q o b e f : Bool) → (p && q && o && b && e && f && t) ≡ (t && (p && q) && b && e && o && f)
+pattern_and true true true true b e f = and-true (b && e && f) ∙ sym (ap (◌&& f) (and-true (b && e)))
+pattern_and true true true false b e f = sym (ap (◌&& f) (and-false (b && e)))
+pattern_and true true false o b e f = refl
+pattern_and true false q o b e f = refl
+pattern_and false p q o b e f = and-false (p && q && o && b && e && f)
+
+pub pattern_told : (b : Book) → let n = b.positions in
+    pattern_sound b
+    ≡ (not b.empty && (leb 1 n && leb n 31) && sound_mask n b.begins && sound_mask n b.ends && all (λ a. ltb a b.symbols) (take n b.occurrences)
+    && all (sound_mask n) (take n b.follows))
+unfolding pattern_sound
+pattern_told b =
+    let n = b.positions in
+    pattern_and (not b.empty) (leb 1 n) (leb n 31) (all (λ a. ltb a b.symbols) (take n b.occurrences)) (sound_mask n b.begins) (sound_mask n b.ends)
+    (all (sound_mask n) (take n b.follows))
 
 pub pattern_empty : (b : Book) → b.empty ≡ true → pattern_sound b ≡ false
-unfolding pattern_sound
-pattern_empty b h =
-    let n = b.positions in
-    let declared = all (λ a. ltb a b.symbols) (take n b.occurrences) in
-    let masks = all (sound_mask n) (take n b.follows) in
-    let others = leb 1 n && leb n 31 && declared && sound_mask n b.begins && sound_mask n b.ends && masks in
-    ap (λ e. others && not e) h ∙ and-false others
+pattern_empty b h = pattern_told b ∙ rw h
 
 pub pattern_none : (b : Book) → (leb 1 b.positions && leb b.positions 31) ≡ false → pattern_sound b ≡ false
 unfolding pattern_sound
@@ -131,12 +150,14 @@ pub pattern_parts : (b : Book) → b.empty ≡ false → (leb 1 b.positions && l
     pattern_sound b
     ≡ (sound_mask n b.begins && sound_mask n b.ends
     && (all (λ a. ltb a b.symbols) (take n b.occurrences) && all (sound_mask n) (take n b.follows)))
-unfolding pattern_sound
 pattern_parts b h k =
     let n = b.positions in
-    rw (h, k)
-    (pattern_and (all (λ a. ltb a b.symbols) (take n b.occurrences)) (sound_mask n b.begins) (sound_mask n b.ends)
-    (all (sound_mask n) (take n b.follows)))
+    let o = all (λ a. ltb a b.symbols) (take n b.occurrences) in
+    pattern_told b ∙ rw (h, k) (and_assoc (sound_mask n b.begins && sound_mask n b.ends) o (all (sound_mask n) (take n b.follows)))
+  where
+    and_assoc : (x y z : Bool) → (x && y && z) ≡ (x && (y && z))
+    and_assoc true y z = refl
+    and_assoc false y z = refl
 
 -- a book: the number of variables and symbols, then the symbols, then the names, then the pattern
 pub book_variables : (b : Book) → 4 < b.variables → book_sound b ≡ false
@@ -207,6 +228,23 @@ module _ (b : Book) (z : BookSized b) (few : b.variables ≤ 4) (some : 1 ≤ b.
           let s = declared_sound b in
           rw (e, and-false (leb b.symbols 16))
           (sym (ap (s &&◌) (pattern_none b (ap (leb 1 b.positions &&◌) e ∙ and-false (leb 1 b.positions))) ∙ and-false s))
+
+pub book_told : (b : Book) → BookSized b
+    → book_sound b
+    ≡ (leb b.variables 4 && (leb 1 b.symbols && leb b.symbols 16) && all (symbol_sound b.variables) (take b.symbols b.table)
+    && all name_placed (take (b.variables + b.symbols) b.names) && pattern_sound b)
+unfolding declared_sound
+book_told b z = go (leb b.variables 4) (leb 1 b.symbols && leb b.symbols 16) refl refl
+  where
+    go : (t u : Bool) → leb b.variables 4 ≡ t → (leb 1 b.symbols && leb b.symbols 16) ≡ u
+        → book_sound b
+        ≡ (t && u && all (symbol_sound b.variables) (take b.symbols b.table) && all name_placed (take (b.variables + b.symbols) b.names)
+        && pattern_sound b)
+    go false u e f = book_variables b (leb-false b.variables 4 e)
+    go true false e f = book_none b f
+    go true true e f =
+        let (low, high) = and_true_split (leb 1 b.symbols) (leb b.symbols 16) f in
+        book_parts b z (leb-true b.variables 4 e) (leb-true 1 b.symbols low) (leb-true b.symbols 16 high)
 
 -- a disjunct: the counts of its slots, and what the view tells
 disjunct_parts : (n : ℕ) (d : Disjunct) → n ≤ length d.vars
@@ -279,3 +317,11 @@ state_parts b s z few count h m e =
     (all (λ p. leb 1 p && leb p (length (take b.positions b.occurrences))) (take s.count s.positions))
     (all (λ d. sound_disjunct n (take n (view_disjunct d))) l)
     (ascending compare_held (held_first n s)))
+
+-- a slot, by whether it is bound; a free one by its count and its exclusions
+pub slot_told : (s : Slot) → Words s → s.bound ≡ false → slot_sound s ≡ (leb s.count 6 && ascending compare (take s.count s.excluded))
+slot_told s w h = go (leb s.count 6) refl
+  where
+    go : (t : Bool) → leb s.count 6 ≡ t → slot_sound s ≡ (t && ascending compare (take s.count s.excluded))
+    go true e = slot_free s w h (leb-true s.count 6 e)
+    go false e = slot_many s h (leb-false s.count 6 e)

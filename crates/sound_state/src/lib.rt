@@ -2,7 +2,7 @@
 #![tactic(auto)]
 
 ghost use Rattle.std.specs.Prelude.{◌≡◌, take};
-ghost use Prim.Native.Nat.{compare, min, ◌≤◌};
+ghost use Prim.Native.Nat.{compare, ◌≤◌};
 ghost use Rattle.laws.specs.Order.{is_less, ascending};
 ghost use Rattle.meaning.specs.Labels.{held_at, compare_held};
 ghost use Rattle.meaning.specs.Room.{exclusion_limit, held_limit};
@@ -15,29 +15,18 @@ ghost use Rattle.sound.specs.Tests.{slot_sound, disjunct_sound, pool_sound};
 use book::Book;
 use disjunct::Disjunct;
 use piece::POSITIONS;
-use slot::{BEFORE, Slot};
+use slot::{Order, Slot};
 use state::State;
-
-fn least(a: usize, b: usize) -> usize
-    ensures { result ≡ min a b }
-{
-    if a < b {
-        return a;
-    }
-    b
-}
 
 // The first n numbers ascend.
 fn ascends(xs: [u32; Disjunct::EXCLUSIONS], n: usize) -> bool
     requires { n ≤ exclusion_limit }
     ensures { result ≡ ascending compare (take n xs) }
 {
-    let mut i: usize = 1;
-    while i < n {
+    for i in 1..n {
         if xs[i] <= xs[i - 1] {
             return false;
         }
-        i += 1;
     }
     true
 }
@@ -45,15 +34,11 @@ fn ascends(xs: [u32; Disjunct::EXCLUSIONS], n: usize) -> bool
 fn sound_slot(s: Slot) -> bool
     ensures { result ≡ slot_sound s }
 {
-    let n = s.count;
-    let xs = s.excluded;
     if s.bound {
-        return n == 0;
+        s.count == 0
+    } else {
+        s.count <= Disjunct::EXCLUSIONS && ascends(s.excluded, s.count)
     }
-    if Disjunct::EXCLUSIONS < n {
-        return false;
-    }
-    ascends(xs, n)
 }
 
 // Each of the first n variables.
@@ -61,16 +46,7 @@ fn sound_disjunct(d: Disjunct, n: usize) -> bool
     requires { n ≤ variable_limit }
     ensures { result ≡ disjunct_sound n d }
 {
-    let mut i: usize = 0;
-    while i < n {
-        let s = d.vars[i];
-        if sound_slot(s) {
-            i += 1;
-        } else {
-            return false;
-        }
-    }
-    true
+    d.vars[..n].iter().all(|s| sound_slot(*s))
 }
 
 // One held disjunct before another: by position, then by the order of disjuncts.
@@ -78,15 +54,7 @@ fn before(p: u32, d: Disjunct, q: u32, e: Disjunct, n: usize) -> bool
     requires { n ≤ variable_limit }
     ensures { result ≡ is_less (compare_held (held_at p (take n (view_disjunct d))) (held_at q (take n (view_disjunct e)))) }
 {
-    if p < q {
-        return true;
-    }
-    if q < p {
-        return false;
-    }
-    let x = d.tidied(n);
-    let y = e.tidied(n);
-    ordering::order(x, y) == BEFORE
+    p < q || (p == q && ordering::order(d.tidied(n), e.tidied(n)) == Order::Before)
 }
 
 // Each of the held disjuncts by itself.
@@ -94,22 +62,12 @@ fn sound_pool(s: State, variables: usize, positions: usize) -> bool
     requires { (variables ≤ variable_limit) × (s.count ≤ held_limit) }
     ensures { result ≡ pool_sound variables positions s }
 {
-    let n = s.count;
-    let mut i: usize = 0;
-    while i < n {
-        let p = s.positions[i] as usize;
-        let d = s.pool[i];
-        if sound::within(p, 1, positions) {
-            if sound_disjunct(d, variables) {
-                i += 1;
-            } else {
-                return false;
-            }
-        } else {
-            return false;
-        }
-    }
-    true
+    s.positions[..s.count]
+        .iter()
+        .all(|p| (1..=positions).contains(&(*p as usize)))
+        && s.pool[..s.count]
+            .iter()
+            .all(|d| sound_disjunct(*d, variables))
 }
 
 // The held disjuncts in their order.
@@ -117,14 +75,14 @@ fn sound_order(s: State, variables: usize) -> bool
     requires { (variables ≤ variable_limit) × (s.count ≤ held_limit) }
     ensures { result ≡ ascending compare_held (held_first variables s) }
 {
-    let n = s.count;
-    let mut i: usize = 1;
-    while i < n {
-        let d = s.pool[i - 1];
-        let e = s.pool[i];
-        if before(s.positions[i - 1], d, s.positions[i], e, variables) {
-            i += 1;
-        } else {
+    for i in 1..s.count {
+        if !before(
+            s.positions[i - 1],
+            s.pool[i - 1],
+            s.positions[i],
+            s.pool[i],
+            variables,
+        ) {
             return false;
         }
     }
@@ -135,16 +93,10 @@ pub fn sound_state(b: Book, s: State) -> bool
     requires { b.variables ≤ variable_limit }
     ensures { result ≡ state_sound b s }
 {
-    if state::EVENTS < s.number {
-        return false;
-    }
-    if state::CAPACITY < s.count {
+    if s.number > state::EVENTS || s.count > state::CAPACITY {
         return false;
     }
     // No more positions than the book has room for.
-    let positions = least(b.positions, POSITIONS);
-    if sound_pool(s, b.variables, positions) {
-        return sound_order(s, b.variables);
-    }
-    false
+    let positions = b.positions.min(POSITIONS);
+    sound_pool(s, b.variables, positions) && sound_order(s, b.variables)
 }

@@ -29,13 +29,10 @@ pub slot_bound : (w : List ℕ) (r : Slot) → get_or w 0 0 ≡ 7 → r ≡ slot
 unfolding slot_in
 slot_bound w r e p = p ∙ rw e
 
-pub slot_free : (w : List ℕ) → 7 ≤ length w → (get_or w 0 0 ≡ 7 → ⊥)
-    → let x : ℕ → ℕ = λ k. get_or w k 0 in
-    record { bound = false; value = 0; count = x 0; excluded = x 1 ∷ x 2 ∷ x 3 ∷ x 4 ∷ x 5 ∷ x 6 ∷ [] } ≡ slot_in w
+pub slot_free : (w xs : List ℕ) → (get_or w 0 0 ≡ 7 → ⊥) → xs ≡ take 6 (drop 1 w)
+    → record { bound = false; value = 0; count = get_or w 0 0; excluded = xs } ≡ slot_in w
 unfolding slot_in
-slot_free w h n =
-    rw (ne_eqb (get_or w 0 0) 7 n)
-    (ap (λ xs. record { bound = false; value = 0; count = get_or w 0 0; excluded = xs }) (sym (part_at 0 w 1 6 h)))
+slot_free w xs n e = rw (ne_eqb (get_or w 0 0) 7 n) (ap (λ l. record { bound = false; value = 0; count = get_or w 0 0; excluded = l }) e)
 
 module _ {A : Type 0} (f : List ℕ → A) (k n : ℕ) (z : A) (w : List ℕ) where
   -- what is made of each group

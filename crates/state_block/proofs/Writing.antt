@@ -14,7 +14,7 @@ use denote.Shadow.{shadow}
 use denote.Array.{each}
 use mir.Val.{Val}
 use lib.Dec.{leb}
-use lib.ListN.{length, take, get_or, set, replicate, replicate-append-replicate}
+use lib.ListN.{drop, length, take, get_or, set, replicate, replicate-append-replicate}
 use lib.Seq.{sets}
 use Rattle.laws.specs.Lists.{gather}
 use Rattle.laws.specs.Parts.{front, splice, pad}
@@ -74,13 +74,13 @@ stored_words (free xs) n code first h k (inr (t, p, q)) =
     let six : length l ≡ 6 = pad_length 6 0 xs (omega arith) in
     ap₂ (λ c y. c ∷ y ∷ x 1 ∷ x 2 ∷ x 3 ∷ x 4 ∷ x 5 ∷ []) (p ∙ h) q ∙ ap (λ r. length xs ∷ r) (sym (by_index 0 l 6 six))
 
-pub slot_written : (s t : Slot) (n code first : ℕ) (w : List ℕ) → 7 ≤ length w → t ≡ slot_of (view_slot s) → n ≡ length (exclusions (view_slot t)) → n ≤ 6
-    → Coded t n code first → sets w 0 (stored t code first) ≡ front (entry_words (view_slot s)) w
-slot_written s t n code first w h p size few came =
+pub slot_written : (s t : Slot) (n code first : ℕ) (w : List ℕ) → t ≡ slot_of (view_slot s) → n ≡ length (exclusions (view_slot t)) → n ≤ 6
+    → Coded t n code first → stored t code first ++ drop 7 w ≡ front (entry_words (view_slot s)) w
+unfolding front
+slot_written s t n code first w p size few came =
     let e = view_slot s in
     let counted : n ≡ length (exclusions e) = size ∙ ap (λ x. length (exclusions x)) (ap view_slot p ∙ view_slot_law e) in
-    sets_front (stored t code first) w h
-    ∙ ap (λ r. front r w)
+    ap (λ r. front r w)
     (ap (λ r. stored r code first) p ∙ stored_words e n code first counted few (subst (λ r. Coded r n code first) p came))
 
 -- zeros, one group after the other

@@ -2,7 +2,7 @@
 // part of a longer slice can be lent.
 #![tactic(auto)]
 
-ghost use Rattle.std.specs.Prelude.{◌≡◌, [], ◌∷◌, map, ◌*◌, ◌≤◌, min, max, length, get_or, take};
+ghost use Rattle.std.specs.Prelude.{◌≡◌, [], ◌∷◌, map, ◌*◌, ◌≤◌, length, get_or, take};
 ghost use Rattle.laws.specs.Lists.{gather};
 ghost use Rattle.laws.specs.Parts.{front, pad};
 ghost use Rattle.meaning.specs.Labels.{fresh};
@@ -35,39 +35,21 @@ const POOL_FROM: usize = POSITIONS_FROM + CAPACITY;
 
 pub const WORDS: usize = POOL_FROM + CAPACITY * GROUP;
 
-fn least(a: usize, b: usize) -> usize
-    ensures { result ≡ min a b }
-{
-    if a < b {
-        return a;
-    }
-    b
-}
-
-fn most(a: usize, b: usize) -> usize
-    ensures { result ≡ max a b }
-{
-    if a < b {
-        return b;
-    }
-    a
-}
-
 // What a variable's words say. A code above that of a value is a count that no sound slot has.
 fn slot_in(words: &[u32]) -> Slot
     requires { slot_words ≤ length words.now }
     ensures { result ≡ slot_in words.now }
 {
-    let code = words[0];
-    let x = words[1];
-    if code == BOUND {
-        return Slot::holding(x);
+    if words[0] == BOUND {
+        return Slot::holding(words[1]);
     }
+    let mut excluded = [0; Disjunct::EXCLUSIONS];
+    excluded.copy_from_slice(&words[1..SLOT]);
     Slot {
         bound: false,
         value: 0,
-        count: code as usize,
-        excluded: [x, words[2], words[3], words[4], words[5], words[6]],
+        count: words[0] as usize,
+        excluded,
     }
 }
 
@@ -76,12 +58,8 @@ fn disjunct_in(words: &[u32]) -> Disjunct
     ensures { result ≡ disjunct_in words.now }
 {
     let mut d = Disjunct::free();
-    let mut i: usize = 0;
-    while i < Disjunct::VARIABLES {
-        let at = SLOT * i;
-        let end = at + SLOT;
-        d.vars[i] = slot_in(&words[at..end]);
-        i += 1;
+    for i in 0..Disjunct::VARIABLES {
+        d.vars[i] = slot_in(&words[SLOT * i..SLOT * i + SLOT]);
     }
     d
 }
@@ -91,14 +69,9 @@ fn pool_in(words: &[u32], n: usize) -> [Disjunct; CAPACITY]
     requires { (held_limit * disjunct_words ≤ length words.now) × (n ≤ held_limit) }
     ensures { result ≡ pad held_limit (disjunct_of []) (take n (map disjunct_in (groups disjunct_words held_limit words.now))) }
 {
-    let none = Disjunct::free();
-    let mut pool = [none; CAPACITY];
-    let mut i: usize = 0;
-    while i < n {
-        let at = GROUP * i;
-        let end = at + GROUP;
-        pool[i] = disjunct_in(&words[at..end]);
-        i += 1;
+    let mut pool = [Disjunct::free(); CAPACITY];
+    for i in 0..n {
+        pool[i] = disjunct_in(&words[GROUP * i..GROUP * i + GROUP]);
     }
     pool
 }
@@ -108,7 +81,7 @@ fn positions_in(words: &[u32], n: usize) -> [u32; CAPACITY]
     requires { (held_limit ≤ length words.now) × (n ≤ held_limit) }
     ensures { result ≡ pad held_limit 0 (take n (take held_limit words.now)) }
 {
-    let mut positions = [0u32; CAPACITY];
+    let mut positions = [0; CAPACITY];
     blocks::copy(&words[..n], &mut positions);
     positions
 }
@@ -119,14 +92,12 @@ fn held(words: &[u32]) -> State
     ensures { result ≡ state_held words.now }
 {
     let count = words[2] as usize;
-    let n = least(count, CAPACITY);
-    let positions = positions_in(&words[POSITIONS_FROM..], n);
-    let pool = pool_in(&words[POOL_FROM..], n);
+    let n = count.min(CAPACITY);
     State {
         number: words[1],
-        count: count,
-        positions: positions,
-        pool: pool,
+        count,
+        positions: positions_in(&words[POSITIONS_FROM..], n),
+        pool: pool_in(&words[POOL_FROM..], n),
     }
 }
 
@@ -136,9 +107,10 @@ pub fn state_in(words: &[u32]) -> State
     ensures { result ≡ state_in words.now }
 {
     if words[0] == LAYOUT {
-        return held(words);
+        held(words)
+    } else {
+        state::vacant(state::EVENTS + 1)
     }
-    state::vacant(state::EVENTS + 1)
 }
 
 // A variable's words, all that is not counted zero.
@@ -149,31 +121,20 @@ fn put_slot(words: &mut [u32], s: Slot)
     let t = s.tidied();
     let n = t.size();
     let x = t.excluded;
-    let mut code = n as u32;
-    let mut first = x[0];
-    if t.bound {
-        code = BOUND;
-        first = t.value;
-    }
-    words[0] = code;
-    words[1] = first;
-    words[2] = x[1];
-    words[3] = x[2];
-    words[4] = x[3];
-    words[5] = x[4];
-    words[6] = x[5];
+    let (code, first) = if t.bound {
+        (BOUND, t.value)
+    } else {
+        (n as u32, x[0])
+    };
+    words[..SLOT].copy_from_slice(&[code, first, x[1], x[2], x[3], x[4], x[5]]);
 }
 
 fn put_group(words: &mut [u32], d: Disjunct)
     requires { disjunct_words ≤ length words.old }
     ensures { words.new ≡ front (group_words d) words.old }
 {
-    let mut i: usize = 0;
-    while i < Disjunct::VARIABLES {
-        let at = SLOT * i;
-        let s = d.vars[i];
-        put_slot(&mut words[at..], s);
-        i += 1;
+    for i in 0..Disjunct::VARIABLES {
+        put_slot(&mut words[SLOT * i..], d.vars[i]);
     }
 }
 
@@ -182,12 +143,8 @@ fn put_pool(words: &mut [u32], pool: [Disjunct; CAPACITY], n: usize)
     requires { (held_limit * disjunct_words ≤ length words.old) × (n ≤ held_limit) }
     ensures { words.new ≡ front (gather group_words (take n pool)) words.old }
 {
-    let mut i: usize = 0;
-    while i < n {
-        let at = GROUP * i;
-        let d = pool[i];
-        put_group(&mut words[at..], d);
-        i += 1;
+    for i in 0..n {
+        put_group(&mut words[GROUP * i..], pool[i]);
     }
 }
 
@@ -206,12 +163,10 @@ pub fn store(words: &mut [u32], old: usize, s: State)
     requires { (length words.old ≡ state_size) × (old ≡ get_or words.old 2 0) × (old ≤ held_limit) × (s.count ≤ held_limit) }
     ensures { words.new ≡ state_stored words.old s }
 {
-    let m = most(old, s.count);
-    let positions = s.positions;
-    let pool = s.pool;
+    let m = old.max(s.count);
     put_head(words, s.number, s.count);
-    blocks::copy(&positions[..m], &mut words[POSITIONS_FROM..]);
-    put_pool(&mut words[POOL_FROM..], pool, m);
+    blocks::copy(&s.positions[..m], &mut words[POSITIONS_FROM..]);
+    put_pool(&mut words[POOL_FROM..], s.pool, m);
 }
 
 // "A fresh state has all 128 disjunct places free and event number 0.": every word is written.
@@ -219,6 +174,6 @@ pub fn put_fresh(words: &mut [u32])
     requires { length words.old ≡ state_size }
     ensures { words.new ≡ state_words (state_of fresh) }
 {
-    blocks::clear(words);
+    words.fill(0);
     words[0] = LAYOUT;
 }

@@ -3,14 +3,12 @@
 use mathlib.Core.Path.{◌≡◌, refl, sym, ap, ◌∙◌}
 use mathlib.Core.Bool.{Bool, true, false}
 use mathlib.Core.List.{List, [], ◌∷◌, ◌++◌}
-use Prim.Native.Nat.{◌≤◌, Ordering}
-use native.Mathlib.Omega.{arith}
-use lib.ListN.{length, length-map}
-use Rattle.laws.specs.Lists.{keep}
+use Prim.Native.Nat.{◌<◌, Ordering}
+use lib.ListN.{length, take, set}
+use lib.Seq.{take-suc-set}
 use Rattle.laws.specs.Order.{ascending}
 use Rattle.laws.specs.Sets.{insert, insert_all, Grown, within}
-use Rattle.laws.proofs.Lists.{keep_length}
-use Rattle.laws.proofs.Sets.{length_insert_all, set_of_ascending}
+use Rattle.laws.proofs.Sets.{set_of_ascending}
 use Rattle.meaning.specs.Events.{Constraint, never}
 use Rattle.meaning.specs.Labels.{Disjunct, free_disjunct, compare_disjuncts, meets, met}
 use Rattle.automaton.proofs.Orders.{disjunct_order}
@@ -26,10 +24,6 @@ module _ (c : Constraint) where
       → insert_all compare_disjuncts (met_list c (a ++ b)) l ≡ insert_all compare_disjuncts (met_list c b) (insert_all compare_disjuncts (met_list c a) l)
   met_both a b l =
       ap (λ m. insert_all compare_disjuncts m l) (met_append c a b) ∙ insert_all_append compare_disjuncts (met_list c a) (met_list c b) l
-
-  met_length : (l : List Disjunct) → length (met_list c l) ≤ length l
-  unfolding met_list
-  met_length l = omega (arith, length-map (keep (λ D. meets D c) l) (λ D. met D c), keep_length (λ D. meets D c) l)
 
   pub met_yes : (D : Disjunct) (l : List Disjunct) → meets D c ≡ true → insert_all compare_disjuncts (met_list c (D ∷ [])) l ≡ insert compare_disjuncts (met D c) l
   met_yes D l h = ap (λ m. insert_all compare_disjuncts m l) (met_one c D h)
@@ -56,10 +50,13 @@ module _ (c : Constraint) where
       → g ≡ within 128 (insert_all compare_disjuncts (met_list c l) b) → g ≡ within 128 (met_set c (with_start begins l))
   grown_started begins l b g e h = h ∙ ap (within 128) (ap (insert_all compare_disjuncts (met_list c l)) e ∙ met_started begins l)
 
-  -- the start gives one disjunct at most
-  pub start_few : length (met_set c (with_start true [])) ≤ 128
-  unfolding met_set with_start
-  start_few = omega (arith, length_insert_all disjunct_order (met_list c (free_disjunct 4 ∷ [])) [], met_length (free_disjunct 4 ∷ []))
+  -- the start that meets c, written into the first place, and the start that does not
+  pub met_begun : (D : Disjunct) (l : List Disjunct) (b : Bool) → 0 < length l → b ≡ true → meets (free_disjunct 4) c ≡ true → D ≡ met (free_disjunct 4) c
+      → take 1 (set l 0 D) ≡ met_set c (with_start b [])
+  met_begun D l b h t m e = take-suc-set l 0 D h ∙ ap (λ E. E ∷ []) e ∙ sym (rw t (met_start ∙ met_yes (free_disjunct 4) [] m))
+
+  pub met_not_begun : (b : Bool) → b ≡ true → meets (free_disjunct 4) c ≡ false → [] ≡ met_set c (with_start b [])
+  met_not_begun b t m = sym (rw t (met_start ∙ met_no (free_disjunct 4) [] m))
 
 pub met_ascending : (c : Constraint) (l : List Disjunct) {b : List Disjunct} → b ≡ met_set c l → ascending compare_disjuncts b ≡ true
 unfolding met_set

@@ -4,13 +4,14 @@ use mathlib.Core.Path.{◌≡◌, refl, sym, ap, ◌∙◌}
 use mathlib.Core.Bool.{true, false, cond}
 use mathlib.Core.List.{List, [], ◌∷◌}
 use Prim.Native.Nat.{ℕ, ◌+◌, ◌≤◌, ◌<◌}
+use Rattle.std.proofs.Common.{Some}
 use native.Mathlib.Numerals.{add-one}
 use native.Mathlib.Omega.{arith}
 use lib.ListN.{length, take, drop, get_or, length-take}
 use lib.Seq.{get_or-take, length-take-le}
 use Rattle.laws.specs.Bits.{bit}
 use Rattle.laws.specs.Order.{ascending}
-use Rattle.laws.specs.Sets.{insert_all, Grown, within}
+use Rattle.laws.specs.Sets.{insert_all, Grown, full, grown, within}
 use Rattle.laws.proofs.Bits.{bit_zero}
 use Rattle.laws.proofs.Lists.{taken_none}
 use Rattle.laws.proofs.Sets.{insert_all_ascending, length_insert_all}
@@ -21,7 +22,7 @@ use Rattle.automaton.proofs.Orders.{disjunct_order}
 use Rattle.bounded.specs.Bounded.{pick, met_list}
 use Rattle.bounded.proofs.Picks.{pick_next}
 use Rattle.packed.specs.Sets.{disjuncts_in, grown_in}
-use Rattle.packed.proofs.Sets.{in_length, in_grown, in_full}
+use Rattle.packed.proofs.Sets.{in_length}
 use Rattle.step.proofs.Meetings.{met_both}
 
 -- the sources among the first n, from the i-th held disjunct on
@@ -69,10 +70,10 @@ module _ (c : Constraint) (q : ℕ) (ms held : List ℕ) (n : ℕ) (base : List 
   growing_none e h o = record { few = omega arith; room = h; ordered = o; same = rw (left_all, e) }
 
   module _ (g : Growing c q ms held n base out m i) where
-    pub growing_all : n ≤ i → grown_in m out ≡ whole
+    pub growing_all : n ≤ i → grown now_held ≡ whole
     unfolding met_list
     growing_all h =
-        in_grown m out g.room ∙ sym (counted_few 128 (length now_held) now_held (omega (arith, g.room, length-take m (disjuncts_in out))))
+        sym (counted_few 128 (length now_held) now_held (omega (arith, g.room, length-take m (disjuncts_in out))))
         ∙ ap (λ s. within 128 (insert_all compare_disjuncts (met_list c s) now_held)) (sym (left_none q ms (disjuncts_in held) n i h)) ∙ g.same
 
     module _ (short : n ≤ 128) (h : i < n) where
@@ -88,8 +89,7 @@ module _ (c : Constraint) (q : ℕ) (ms held : List ℕ) (n : ℕ) (base : List 
             same = ap (λ s. within 128 (insert_all compare_disjuncts (met_list c s) now_held)) (sym (left_passed q ms (disjuncts_in held) n i long h e)) ∙ g.same;
           }
 
-      module _ (out' : List ℕ) (m' : ℕ) (D : Disjunct) (e : bit q (get_or ms i 0) ≡ true) (d : D ≡ get_or (disjuncts_in held) i [])
-          (a : grown_in m' out' ≡ within 128 (insert_all compare_disjuncts (met_list c (D ∷ [])) now_held)) where
+      module _ (D : Disjunct) (e : bit q (get_or ms i 0) ≡ true) (d : D ≡ get_or (disjuncts_in held) i []) where
         abbrev grew : List Disjunct
         grew = insert_all compare_disjuncts (met_list c (D ∷ [])) now_held
 
@@ -103,9 +103,9 @@ module _ (c : Constraint) (q : ℕ) (ms held : List ℕ) (n : ℕ) (base : List 
             (ap (λ E. E ∷ after) d ∙ sym (left_taken q ms (disjuncts_in held) n i long h e)))
             ∙ g.same
 
-        pub growing_more : m' ≤ 128 → Growing c q ms held n base out' m' (i + 1)
-        growing_more k =
-            let t : take m' (disjuncts_in out') ≡ grew = sym (few_counted 128 (length grew) grew _ (sym a ∙ in_grown m' out' k)).1 in
+        pub growing_more : (out' : List ℕ) (m' : ℕ) → m' ≤ 128 → grown_in (Some m') out' ≡ within 128 grew → Growing c q ms held n base out' m' (i + 1)
+        growing_more out' m' k a =
+            let t : take m' (disjuncts_in out') ≡ grew = sym (few_counted 128 (length grew) grew _ (sym a)).1 in
             record {
               few = omega arith;
               room = k;
@@ -113,10 +113,8 @@ module _ (c : Constraint) (q : ℕ) (ms held : List ℕ) (n : ℕ) (base : List 
               same = ap (λ s. within 128 (insert_all compare_disjuncts (met_list c after) s)) t ∙ turn;
             }
 
-        pub growing_full : (w : List ℕ) → 128 < m' → grown_in 129 w ≡ whole
-        growing_full w k =
-            let over : 128 < length grew = over_counted 128 (length grew) grew (sym a ∙ in_full m' out' k) in
+        pub growing_full : full ≡ within 128 grew → full ≡ whole
+        growing_full a =
+            let over : 128 < length grew = over_counted 128 (length grew) grew (sym a) in
             let l = insert_all compare_disjuncts (met_list c after) grew in
-            in_full 129 w (omega arith)
-            ∙ sym (counted_over 128 (length l) l (omega (arith, over, length_insert_all disjunct_order (met_list c after) grew)))
-            ∙ turn
+            sym (counted_over 128 (length l) l (omega (arith, over, length_insert_all disjunct_order (met_list c after) grew))) ∙ turn

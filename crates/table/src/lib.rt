@@ -19,13 +19,13 @@ pub const PARAMETERS: usize = 4;
 pub const NAMES: usize = VARIABLES + SYMBOLS;
 
 // A parameter of a symbol: tag 0, ignored; tag 1, the variable with that number; tag 2, that number itself, fixed.
-#[derive(Clone, Copy)]
+#[derive(Clone, Copy, PartialEq, Eq)]
 pub struct Parameter {
     pub tag: u32,
     pub number: u32,
 }
 
-#[derive(Clone, Copy)]
+#[derive(Clone, Copy, PartialEq, Eq)]
 pub struct Symbol {
     pub kind: u32,
     pub count: usize,
@@ -33,14 +33,14 @@ pub struct Symbol {
 }
 
 // The part of the text where a name is declared.
-#[derive(Clone, Copy)]
+#[derive(Clone, Copy, PartialEq, Eq)]
 pub struct Name {
     pub start: usize,
     pub size: usize,
 }
 
 // Variables' names come first, then symbols'.
-#[derive(Clone, Copy)]
+#[derive(Clone, Copy, PartialEq, Eq)]
 pub struct Table {
     pub variables: usize,
     pub count: usize,
@@ -51,39 +51,34 @@ pub struct Table {
 pub fn no_symbol() -> Symbol
     ensures { result ≡ symbol_of no_symbol }
 {
-    let p = Parameter { tag: 0, number: 0 };
     Symbol {
         kind: 0,
         count: 0,
-        parameters: [p; PARAMETERS],
+        parameters: [Parameter { tag: 0, number: 0 }; PARAMETERS],
     }
 }
 
 pub fn no_table() -> Table
     ensures { result ≡ table_of no_table }
 {
-    let n = Name { start: 0, size: 0 };
-    let y = no_symbol();
     Table {
         variables: 0,
         count: 0,
-        names: [n; NAMES],
-        symbols: [y; SYMBOLS],
+        names: [Name { start: 0, size: 0 }; NAMES],
+        symbols: [no_symbol(); SYMBOLS],
     }
 }
 
-pub fn with_variable(t: Table, n: Name) -> Table
+pub fn with_variable(mut t: Table, n: Name) -> Table
     requires { t.variables < variable_limit }
     ensures { result ≡ record { variables = t.variables + 1; count = t.count; names = set t.names t.variables n; symbols = t.symbols } }
 {
-    let at = t.variables;
-    let mut r = t;
-    r.names[at] = n;
-    r.variables = at + 1;
-    r
+    t.names[t.variables] = n;
+    t.variables += 1;
+    t
 }
 
-pub fn with_symbol(t: Table, n: Name, y: Symbol) -> Table
+pub fn with_symbol(mut t: Table, n: Name, y: Symbol) -> Table
     requires { (t.variables ≤ variable_limit) × (t.count < symbol_limit) }
     ensures { result ≡ record {
       variables = t.variables;
@@ -92,13 +87,10 @@ pub fn with_symbol(t: Table, n: Name, y: Symbol) -> Table
       symbols = set t.symbols t.count y;
     } }
 {
-    let at = t.count;
-    let number = t.variables + at;
-    let mut r = t;
-    r.names[number] = n;
-    r.symbols[at] = y;
-    r.count = at + 1;
-    r
+    t.names[t.variables + t.count] = n;
+    t.symbols[t.count] = y;
+    t.count += 1;
+    t
 }
 
 // The variables that a parameter binds, one bit to a variable.
@@ -106,11 +98,7 @@ fn parameter_bound(p: Parameter) -> u32
     requires { sound_parameter mask_bits (view_parameter p) ≡ true }
     ensures { result ≡ bound_in (view_parameter p ∷ []) }
 {
-    let n = p.number;
-    if p.tag == 1 {
-        return 1u32 << n;
-    }
-    0
+    if p.tag == 1 { 1 << p.number } else { 0 }
 }
 
 // Those that a symbol binds.
@@ -118,13 +106,9 @@ pub fn bound_in(y: Symbol) -> u32
     requires { (y.count ≤ parameter_limit) × (all (sound_parameter mask_bits) (view_symbol y).parameters ≡ true) }
     ensures { result ≡ bound_in (view_symbol y).parameters }
 {
-    let mut m: u32 = 0;
-    let n = y.count;
-    let mut i = 0;
-    while i < n {
-        let p = y.parameters[i];
-        m = m | parameter_bound(p);
-        i += 1;
+    let mut m = 0;
+    for p in &y.parameters[..y.count] {
+        m |= parameter_bound(*p);
     }
     m
 }

@@ -2,23 +2,13 @@
 #![tactic(auto)]
 
 ghost use Rattle.std.specs.Prelude.{◌≡◌};
-ghost use Rattle.tally.specs.Tallies.{capped, tallied};
+ghost use Rattle.tally.specs.Tallies.{tallied};
 
-#[derive(Clone, Copy)]
+#[derive(Clone, Copy, PartialEq, Eq)]
 pub struct Tally {
     pub accepted: u64,
     pub refused: u64,
     pub rows: u64,
-}
-
-// A counter with n more, or the largest value.
-fn up(x: u64, n: u64) -> u64
-    ensures { result ≡ capped x n }
-{
-    if n <= 18446744073709551615 - x {
-        return x + n;
-    }
-    18446744073709551615
 }
 
 impl Tally {
@@ -37,9 +27,9 @@ impl Tally {
         ensures { result ≡ tallied self accepted refused rows }
     {
         Tally {
-            accepted: up(self.accepted, accepted),
-            refused: up(self.refused, refused),
-            rows: up(self.rows, rows),
+            accepted: self.accepted.saturating_add(accepted),
+            refused: self.refused.saturating_add(refused),
+            rows: self.rows.saturating_add(rows),
         }
     }
 }

@@ -1,3 +1,4 @@
--- Laws for the proofs of the scanning functions: runs of bytes, and the bytes of a word.
+-- Laws for the proofs of the scanning functions: runs of bytes, the bytes of a word, and steps.
 pub mod Runs
 pub mod Parts
+pub mod Steps

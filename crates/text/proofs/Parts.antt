@@ -7,9 +7,11 @@ use native.Mathlib.Nat.{pow-suc, pow-le-pow_right}
 use native.Mathlib.Numerals.{add-one}
 use native.Mathlib.Omega.{arith}
 use borrow.Author.Tests.{leb-true}
-use lib.Dec.{leb}
+use lib.Dec.{eqb, leb}
+use lib.Pointwise.{pointwise}
 use lib.ListN.{length, get_or, take, drop, length-drop}
-use lib.Seq.{drop-cons, length-take-le, get_or-take, get_or-drop, ext_get_or}
+use lib.Seq.{drop-cons, length-take-le, get_or-take, get_or-drop}
+use Rattle.std.specs.Cmp.Lexicographic.{same_text, other_text}
 use Rattle.laws.specs.Lists.{all}
 use Rattle.laws.proofs.Lists.{and_true_split}
 use Rattle.form.specs.Text.{Bytes, is_digit}
@@ -39,23 +41,6 @@ same_not v w h = go (same_word v w) refl
     go : (b : Bool) → same_word v w ≡ b → b ≡ false
     go true e = absurd (h ((same_word_law v w).0 e))
     go false e = refl
-
--- Parts of two texts, compared.
-module _ (a : Bytes) (p e : ℕ) (b : Bytes) (q f : ℕ) (h : (p ≤ e) × (e ≤ length a) × (q ≤ f) × (f ≤ length b)) where
-  pub same_size : (e - p ≡ f - q → ⊥) → same_word (part a p e) (part b q f) ≡ false
-  same_size n = same_not (part a p e) (part b q f) (λ r. n (sym (part_length a p e h.1) ∙ ap length r ∙ part_length b q f h.3))
-
-  pub same_at : (k : ℕ) → e - p ≡ f - q → k < e - p → (get_or a (p + k) 0 ≡ get_or b (q + k) 0 → ⊥) → same_word (part a p e) (part b q f) ≡ false
-  same_at k n l d =
-      same_not (part a p e) (part b q f) (λ r. d (sym (part_at a p e k 0 (omega arith)) ∙ ap (λ w. get_or w k 0) r ∙ part_at b q f k 0 (omega arith)))
-
-  pub same_all : e - p ≡ f - q → ((k : ℕ) → k < e - p → get_or a (p + k) 0 ≡ get_or b (q + k) 0) → same_word (part a p e) (part b q f) ≡ true
-  same_all n d =
-      let la = part_length a p e h.1 in
-      let lb = part_length b q f h.3 in
-      (same_word_law (part a p e) (part b q f)).1
-      (ext_get_or 0 (part a p e) (part b q f) (omega arith)
-      (λ k l. part_at a p e k 0 (omega arith) ∙ d k (omega arith) ∙ sym (part_at b q f k 0 (omega arith))))
 
 -- Where a loop over the digits of the word from p to e stands: at i, with the value n of those before i.
 pub record Read (s : Bytes) (p e n i : ℕ) : Type 0 where
@@ -97,3 +82,11 @@ module _ (s : Bytes) (p e n i : ℕ) (r : Read s p e n i) where
           digits = digit_first.1;
           same = ap (value n) (sym (part_cons s i e l h)) ∙ r.same;
         }
+
+-- two words are the same bytes where each is the other's, as `==` of slices tells it
+pub same_bytes : (v w : Bytes) → pointwise eqb v w ≡ same_word v w
+same_bytes v w = go (pointwise eqb v w) refl
+  where
+    go : (b : Bool) → pointwise eqb v w ≡ b → b ≡ same_word v w
+    go true e = sym ((same_word_law v w).1 (same_text v w (sym e)))
+    go false e = sym (same_not v w (other_text v w (sym e)))

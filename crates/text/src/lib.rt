@@ -2,146 +2,111 @@
 // patterns; a word as a name, as a kind or as a fixed number is in `words`.
 #![tactic(auto)]
 
-ghost use Rattle.std.specs.Prelude.{◌≡◌, ◌&&◌, not, ◌≤◌, eqb, length};
+ghost use Rattle.std.specs.Prelude.{◌≡◌, ◌≤◌, ◌-◌, length, slice_get, drop};
 ghost use Rattle.form.specs.Text.{is_lower, is_digit, is_name_byte};
-ghost use Rattle.form.specs.Form.{same_word};
-ghost use Rattle.form.specs.Scan.{past_end, at, is_word_byte, spaces_end, word_end, next_word, part};
+ghost use Rattle.std.specs.List.{prefix_len};
+ghost use Rattle.form.specs.Scan.{is_space, is_word_byte, spaces_end, word_end, next_word};
 ghost use Rattle.form.specs.Lines.{want_word};
 ghost use Rattle.text.specs.Steps.{step_of};
 
-pub const SPACE: usize = b' ' as usize;
+pub const SPACE: u8 = b' ';
 
-pub const LF: usize = b'\n' as usize;
-// What stands past the end: no byte.
-pub const PAST_END: usize = 256;
+pub const LF: u8 = b'\n';
 
-// The first and the last letter, the first and the last digit.
-const LOWER_A: usize = b'a' as usize;
-
-const LOWER_Z: usize = b'z' as usize;
-
-pub const ZERO: usize = b'0' as usize;
-
-const NINE: usize = b'9' as usize;
-
-// What a step of the reader gives: fault 0 and the place to go on from, or a fault's number and its place.
-#[derive(Clone, Copy)]
-pub struct Step {
-    pub fault: usize,
-    pub place: usize,
+// Why a text is refused and where: the answers 2 to 8 of document 01, with the first byte of the offending word or token.
+#[derive(Clone, Copy, PartialEq, Eq)]
+pub enum Refusal {
+    BadLine(usize),
+    AboveLimit(usize),
+    Redeclared(usize),
+    Undeclared(usize),
+    BadPattern(usize),
+    EmptyWord(usize),
+    Unbound(usize),
 }
 
-fn wide(b: u8) -> usize
-    ensures { result ≡ b }
+// The byte at p, none past the end.
+pub fn peek(s: &[u8], p: usize) -> Option<u8>
+    ensures { result ≡ slice_get s.now p }
 {
-    b as usize
+    s.get(p).copied()
 }
 
-// The byte at p, or what stands past the end.
-pub fn peek(s: &[u8], p: usize) -> usize
-    ensures { result ≡ at s.now p }
-{
-    if p < s.len() { wide(s[p]) } else { PAST_END }
-}
-
-pub fn is_lower(b: usize) -> bool
+pub fn is_lower(b: u8) -> bool
     ensures { result ≡ is_lower b }
 {
-    LOWER_A <= b && b <= LOWER_Z
+    b.is_ascii_lowercase()
 }
 
-pub fn is_digit(b: usize) -> bool
+pub fn is_digit(b: u8) -> bool
     ensures { result ≡ is_digit b }
 {
-    ZERO <= b && b <= NINE
+    b.is_ascii_digit()
 }
 
-pub fn is_name_byte(b: usize) -> bool
+pub fn is_name_byte(b: u8) -> bool
     ensures { result ≡ is_name_byte b }
 {
     is_lower(b) || is_digit(b)
 }
 
-// A byte of a word, and not past the end.
-fn is_word_byte(b: usize) -> bool
-    ensures { result ≡ (is_word_byte b && not (eqb b past_end)) }
+fn is_word_byte(b: u8) -> bool
+    ensures { result ≡ is_word_byte b }
 {
-    b != SPACE && b != LF && b != PAST_END
+    b != SPACE && b != LF
+}
+
+// How many spaces stand from p on, and how many bytes of a word.
+fn spaces(s: &[u8], p: usize) -> usize
+    ensures value { result ≡ prefix_len is_space (drop p s.now) }
+    ensures within { result ≤ length s.now - p }
+{
+    s.iter().skip(p).take_while(|b| **b == SPACE).count()
+}
+
+fn word_bytes(s: &[u8], p: usize) -> usize
+    ensures value { result ≡ prefix_len is_word_byte (drop p s.now) }
+    ensures within { result ≤ length s.now - p }
+{
+    s.iter().skip(p).take_while(|b| is_word_byte(**b)).count()
 }
 
 pub fn spaces_end(s: &[u8], p: usize) -> usize
     ensures { result ≡ spaces_end s.now p }
 {
-    let mut i = p;
-    while peek(s, i) == SPACE {
-        i += 1;
-    }
-    i
+    p + spaces(s, p)
 }
 
 pub fn word_end(s: &[u8], p: usize) -> usize
     ensures { result ≡ word_end s.now p }
 {
-    let mut i = p;
-    while is_word_byte(peek(s, i)) {
-        i += 1;
-    }
-    i
+    p + word_bytes(s, p)
 }
 
-// After a word that ends at p: the next word, the line's LF at p itself, or a fault.
-pub fn next_word(s: &[u8], p: usize) -> Step
+// After a word that ends at p: the next word, the line's LF at p itself, or why there is neither.
+pub fn next_word(s: &[u8], p: usize) -> Result<usize, Refusal>
     ensures { result ≡ step_of (next_word s.now p) }
 {
     let q = spaces_end(s, p);
-    let b = peek(s, q);
-    if q == p {
-        if b == LF {
-            return Step { fault: 0, place: p };
-        }
-        return Step { fault: 2, place: p };
-    }
-    if b == LF || b == PAST_END {
-        return Step { fault: 2, place: p };
-    }
-    if q == p + 1 {
-        return Step { fault: 0, place: q };
-    }
-    Step {
-        fault: 2,
-        place: p + 1,
+    let Some(b) = peek(s, q) else {
+        return Err(Refusal::BadLine(p));
+    };
+    match (b == LF, q - p) {
+        (true, 0) => Ok(p),
+        (true, _) => Err(Refusal::BadLine(p)),
+        (false, 0) => Err(Refusal::BadLine(p)),
+        (false, 1) => Ok(q),
+        (false, _) => Err(Refusal::BadLine(p + 1)),
     }
 }
 
 // A word that must stand after the word that ends at p.
-pub fn want_word(s: &[u8], p: usize) -> Step
+pub fn want_word(s: &[u8], p: usize) -> Result<usize, Refusal>
     ensures { result ≡ step_of (want_word s.now p) }
 {
-    let n = next_word(s, p);
-    if n.fault == 0 {
-        if n.place == p {
-            return Step { fault: 2, place: p };
-        }
-        return n;
+    let q = next_word(s, p)?;
+    if q == p {
+        return Err(Refusal::BadLine(p));
     }
-    n
-}
-
-// Whether the bytes of a from p to e are those of b from q to f.
-pub fn same(a: &[u8], p: usize, e: usize, b: &[u8], q: usize, f: usize) -> bool
-    requires { (p ≤ e) × (e ≤ length a.now) × (q ≤ f) × (f ≤ length b.now) }
-    ensures { result ≡ same_word (part a.now p e) (part b.now q f) }
-{
-    if e - p != f - q {
-        return false;
-    }
-    let n = e - p;
-    let mut i = 0;
-    while i < n {
-        if a[p + i] != b[q + i] {
-            return false;
-        }
-        i += 1;
-    }
-    true
+    Ok(q)
 }

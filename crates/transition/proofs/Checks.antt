@@ -1,9 +1,10 @@
 -- The answer of the pure step by the checks in their order: what the first that fails answers, and what is left of them once book, state and record
 -- have passed. For the functions of this crate, and for `watch`.
 use mathlib.Core.Path.{◌≡◌, sym, ap, subst, ◌∙◌}
-use mathlib.Core.Bool.{true, false, false≢true}
+use mathlib.Core.Bool.{true, false}
 use mathlib.Core.List.{List}
 use Prim.Native.Nat.{ℕ, ◌≤◌}
+use Rattle.std.proofs.Common.{Option, Some, None, is_some, Result, Ok, Err}
 use borrow.Author.Tests.{eq-eqb, ne_eqb}
 use Rattle.laws.specs.Checks.{Check, first_failing}
 use Rattle.meaning.specs.Events as Events
@@ -11,7 +12,7 @@ use Rattle.meaning.specs.Sound.{event_limit}
 use Rattle.book.specs.declared.Book.{Book}
 use Rattle.state.specs.declared.State.{State}
 use Rattle.sound.specs.Soundness.{book_sound, state_sound}
-use Rattle.record.specs.declared.Decoded.{Decoded}
+use Rattle.record.specs.declared.Event.{Event}
 use Rattle.record.specs.Records.{is_record, event_in, event_of, view_event, decoded}
 use Rattle.record.proofs.Records.{decoded_ok, decoded_event, view_event_law, event_count, event_few}
 use Rattle.calls.specs.declared.EventAnswer.{EventAnswer}
@@ -20,15 +21,11 @@ use Rattle.calls.specs.Calls.{is_accepted, leaves_free_by, room_by, unsound, out
 use Rattle.transition.specs.declared.Stepped.{Stepped}
 use Rattle.transition.specs.Moves.{judgements, Decided}
 
--- refused: the answer of the first check that fails, which is none of acceptance
-pub refused_by : (b : Book) (s : State) (e : Events.Event) (checks : List (Check EventAnswer)) {a : EventAnswer} → first_failing Accepted checks ≡ a
-    → is_accepted a ≡ false → {r : Stepped} → (r.answer ≡ a) × (r.accepted ≡ false) → {at next out : List ℕ} → Decided b s e checks r at next out
-refused_by b s e checks f n q =
-    record {
-      first = q.0 ∙ sym f;
-      flag = q.1 ∙ sym (ap is_accepted q.0 ∙ n);
-      moved = λ z. absurd (false≢true (sym q.1 ∙ z));
-    }
+-- the same by another list of checks, of which the same fails first
+decided_by : (b : Book) (s : State) (e : Events.Event) (k l : List (Check EventAnswer)) → first_failing Accepted k ≡ first_failing Accepted l
+    → (x : Result Stepped EventAnswer) (at next out : List ℕ) → Decided b s e k x at next out → Decided b s e l x at next out
+decided_by b s e k l h (Ok r) at next out d = (d.0 ∙ h, d.1)
+decided_by b s e k l h (Err a) at next out d = (d.0 ∙ h, d.1)
 
 -- the checks of a sound book in a sound state
 module _ (b : Book) (s : State) (e : Events.Event) where
@@ -68,27 +65,26 @@ module _ (b : Book) (s : State) (r : List ℕ) where
       first_judged h = rw (sb, ss, h)
 
 -- what is decoded of a record
-module _ (r : List ℕ) (d : Decoded) (e : d ≡ decoded r) where
-  pub decoded_not : d.ok ≡ false → is_record r ≡ false
-  decoded_not h = sym (decoded_ok r) ∙ sym (ap (λ x. x.ok) e) ∙ h
+pub decoded_not : (r : List ℕ) → None ≡ decoded r → is_record r ≡ false
+decoded_not r e = sym (decoded_ok r) ∙ ap is_some (sym e)
 
-  module _ (h : d.ok ≡ true) where
-    decoded_record : is_record r ≡ true
-    decoded_record = sym (decoded_ok r) ∙ sym (ap (λ x. x.ok) e) ∙ h
+module _ (r : List ℕ) (d : Event) (e : Some d ≡ decoded r) where
+  decoded_record : is_record r ≡ true
+  decoded_record = sym (decoded_ok r) ∙ ap is_some (sym e)
 
-    decoded_same : d.event ≡ event_of (event_in r)
-    decoded_same = ap (λ x. x.event) e ∙ decoded_event r decoded_record
+  decoded_same : d ≡ event_of (event_in r)
+  decoded_same = let same : Some d ≡ Some (event_of (event_in r)) = e ∙ decoded_event r decoded_record in cc
 
-    pub decoded_few : d.event.count ≤ 4
-    decoded_few = rw (decoded_same, event_count (event_in r)) (event_few r decoded_record)
+  pub decoded_few : d.count ≤ 4
+  decoded_few = rw (decoded_same, event_count (event_in r)) (event_few r decoded_record)
 
-    decoded_view : view_event d.event ≡ event_in r
-    decoded_view = ap view_event decoded_same ∙ view_event_law (event_in r)
+  decoded_view : view_event d ≡ event_in r
+  decoded_view = ap view_event decoded_same ∙ view_event_law (event_in r)
 
-    -- what is decided of the event that is decoded is decided of the record
-    pub decided_record : (b : Book) (s : State) → book_sound b ≡ true → state_sound b s ≡ true → {x : Stepped} {at next out : List ℕ}
-        → Decided b s (view_event d.event) (judgements b s (view_event d.event)) x at next out
-        → Decided b s (event_in r) (decisions b s r) x at next out
-    decided_record b s sb ss {x} {at} {next} {out} g =
-        let k = subst (λ v. Decided b s v (judgements b s v) x at next out) decoded_view g in
-        record { first = k.first ∙ sym (first_judged b s r sb ss decoded_record); flag = k.flag; moved = k.moved }
+  -- what is decided of the event that is decoded is decided of the record
+  pub decided_record : (b : Book) (s : State) → book_sound b ≡ true → state_sound b s ≡ true → (x : Result Stepped EventAnswer) (at next out : List ℕ)
+      → Decided b s (view_event d) (judgements b s (view_event d)) x at next out
+      → Decided b s (event_in r) (decisions b s r) x at next out
+  decided_record b s sb ss x at next out g =
+      decided_by b s (event_in r) (judgements b s (event_in r)) (decisions b s r) (sym (first_judged b s r sb ss decoded_record)) x
+      at next out (subst (λ v. Decided b s v (judgements b s v) x at next out) decoded_view g)

@@ -4,6 +4,8 @@ use mathlib.Core.Path.{◌≡◌, refl, sym, ap, ap₂, subst, ◌∙◌}
 use mathlib.Core.Bool.{Bool, true, false, cond}
 use mathlib.Core.List.{List, map}
 use Prim.Native.Nat.{ℕ, suc, ◌+◌, ◌≤◌, ◌<◌}
+use Rattle.std.proofs.Common.{Some, None, Ok}
+use Rattle.meaning.specs.Room.{held_limit}
 use native.Mathlib.Numerals.{add-one}
 use native.Mathlib.Omega.{arith}
 use Rattle.laws.specs.Sets.{full, grown}
@@ -16,13 +18,12 @@ use Rattle.book.specs.declared.Book.{Book}
 use Rattle.book.specs.Books.{view_book}
 use Rattle.book.specs.Counts.{view_from}
 use Rattle.packed.specs.Held.{held_in, held_grown}
-use Rattle.packed.proofs.Held.{grown_held, full_held, width_in}
+use Rattle.packed.proofs.Held.{width_in}
 use Rattle.state.specs.declared.State.{State}
 use Rattle.state.specs.States.{state_of, held_first, view_state}
 use Rattle.state.proofs.States.{state_wide}
 use Rattle.sound.specs.Soundness.{book_sound, state_sound}
 use Rattle.sound.proofs.Soundness.{book_view, state_view}
-use Rattle.calls.specs.declared.EventAnswer.TheVariants.{Accepted}
 use Rattle.calls.specs.Calls.{rows_by, state_by, leaves_free_by, room_by}
 use Rattle.matcher.specs.declared.Effect.{Effect}
 use Rattle.matcher.specs.Effects.{Holding, Effects}
@@ -66,42 +67,44 @@ module _ (b : Book) (s : State) where
     unfolding room_by
     grew_known = known.after
 
-    pub no_room_law : 128 < r.held → room_by b s e ≡ false
-    no_room_law h = go (room_by b s e) grew_known
+    pub no_room_law : r.held ≡ None → room_by b s e ≡ false
+    no_room_law h = go (room_by b s e) (ap (λ k. held_grown k at w) (sym h) ∙ grew_known)
       where
-        go : (t : Bool) → held_grown r.held at w ≡ cond t (grown (map wide_held after)) full → t ≡ false
-        go true g = absurd (omega (arith, (grown_held r.held at w (map wide_held after) g).0))
+        go : (t : Bool) → full ≡ cond t (grown (map wide_held after)) full → t ≡ false
+        go true g = cc
         go false g = refl
 
-    room_held : r.held ≤ 128 → (room_by b s e ≡ true) × (held_in r.held at w ≡ map wide_held after)
-    room_held h = go (room_by b s e) grew_known
-      where
-        go : (t : Bool) → held_grown r.held at w ≡ cond t (grown (map wide_held after)) full
-            → (t ≡ true) × (held_in r.held at w ≡ map wide_held after)
-        go true g = (refl, (grown_held r.held at w (map wide_held after) g).1)
-        go false g = absurd (omega (arith, full_held r.held at w g))
+    module _ (n : ℕ) (h : r.held ≡ Some n) where
+      room_held : (room_by b s e ≡ true) × (held_in n at w ≡ map wide_held after)
+      room_held = go (room_by b s e) (ap (λ k. held_grown k at w) (sym h) ∙ grew_known)
+        where
+          go : (t : Bool) → grown (held_in n at w) ≡ cond t (grown (map wide_held after)) full
+              → (t ≡ true) × (held_in n at w ≡ map wide_held after)
+          go true g = (refl, cc)
+          go false g = let z : ◌≡◌ {A = ℕ} 0 1 = cc in absurd (omega arith)
 
-    stored_known : r.held ≤ 128 → state_of (record { number = s.number + 1; held = held_in r.held at w }) ≡ state_by b s e
-    unfolding state_by view_state
-    stored_known h =
-        let k = (room_held h).1 in
-        ap₂ (λ n l. state_of (record { number = n; held = l })) (add-one s.number) k
-        ∙ state_wide (suc s.number) after (width_in r.held at w after k)
+      room_few : n ≤ held_limit
+      room_few = rw h at known.room
 
-    -- accepted: no check fails, and the next state can be stored
-    pub accepted_by : r.free ≡ false → s.number ≤ event_limit → (s.number ≡ event_limit → ⊥) → r.held ≤ 128
-        → Decided b s e (judgements b s e) (record { answer = Accepted; accepted = true; held = r.held; rows = r.rows }) at w out
-    unfolding rows_by
-    accepted_by f l n h =
+      stored_known : state_of (record { number = s.number + 1; held = held_in n at w }) ≡ state_by b s e
+      unfolding state_by view_state
+      stored_known =
+          let k = room_held.1 in
+          ap₂ (λ n l. state_of (record { number = n; held = l })) (add-one s.number) k
+          ∙ state_wide (suc s.number) after (width_in n at w after k)
+
+      -- accepted: no check fails, and the next state can be stored
+      pub accepted_by : r.free ≡ false → s.number ≤ event_limit → (s.number ≡ event_limit → ⊥)
+          → Decided b s e (judgements b s e) (Ok (record { held = n; rows = r.rows })) at w out
+      unfolding rows_by
+      accepted_by f l m = (
+        sym (judged_passed b s e (free_known f) m room_held.0),
         record {
-          first = sym (judged_passed b s e (free_known f) n (room_held h).0);
-          flag = refl;
-          moved = λ _. record {
-            below = omega (arith, l, n);
-            room = h;
-            after = stored_known h;
-            counted = known.counted;
-            few = known.few;
-            listed = known.listed;
-          };
-        }
+          below = omega (arith, l, m);
+          room = room_few;
+          after = stored_known;
+          counted = known.counted;
+          few = known.few;
+          listed = known.listed;
+        },
+      )

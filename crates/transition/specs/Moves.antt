@@ -1,5 +1,5 @@
 -- What the pure step of an event hands on. No public contract and no theorem cites this page: a buyer may pass it over.
-use Rattle.std.specs.Prelude.{◌≡◌, true, not, List, [], ◌∷◌, map, ℕ, ◌+◌, ◌≤◌, ◌<◌, eqb, length, take}
+use Rattle.std.specs.Prelude.{◌≡◌, Result, Ok, Err, false, not, List, [], ◌∷◌, map, ℕ, ◌+◌, ◌≤◌, ◌<◌, eqb, length, take}
 use Rattle.laws.specs.Checks.{Check, first_failing}
 use Rattle.meaning.specs.Events as Events
 use Rattle.meaning.specs.Room.{held_limit}
@@ -35,8 +35,7 @@ module _ (b : Book) (s : State) (e : Events.Event) where
     pub few : r.rows ≤ row_limit
     pub listed : take r.rows (valuations_in out) ≡ map wide_valuation (rows_by b s e)
 
-  -- what it gives by a list of checks: the answer of the first that fails; on acceptance that
-  pub record Decided (checks : List (Check EventAnswer)) (r : Stepped) (at next out : List ℕ) : Type 0 where
-    pub first : r.answer ≡ first_failing Accepted checks
-    pub flag : r.accepted ≡ is_accepted r.answer
-    pub moved : r.accepted ≡ true → Moved r at next out
+  -- what it gives by a list of checks: where none fails that; else the answer of the first that fails, which is none of acceptance
+  abbrev pub Decided : List (Check EventAnswer) → Result Stepped EventAnswer → (at next out : List ℕ) → Type 0
+  Decided checks (Ok r) at next out = (Accepted ≡ first_failing Accepted checks) × Moved r at next out
+  Decided checks (Err a) at next out = (a ≡ first_failing Accepted checks) × (is_accepted a ≡ false)

@@ -2,7 +2,7 @@
 // written to a row buffer here: the crate watch does that, once every check has passed.
 #![tactic(auto)]
 
-ghost use Rattle.std.specs.Prelude.{◌≡◌, true, false, ◌≤◌};
+ghost use Rattle.std.specs.Prelude.{◌≡◌, true, ◌≤◌};
 ghost use Rattle.meaning.specs.Limits.{argument_limit};
 ghost use Rattle.record.specs.Records.{event_in, view_event};
 ghost use Rattle.sound.specs.Soundness.{book_sound, state_sound};
@@ -15,25 +15,11 @@ use packed::Words;
 use record::Event;
 use state::State;
 
-// What the pure step decides: the answer of the checks 9 to 12, whether it is acceptance, and how many disjuncts and valuations are in the lent
-// words.
-#[derive(Clone, Copy)]
+// What the pure step leaves where it accepts: how many disjuncts and valuations are in the lent words.
+#[derive(Clone, Copy, PartialEq, Eq)]
 pub struct Stepped {
-    pub answer: EventAnswer,
-    pub accepted: bool,
     pub held: usize,
     pub rows: usize,
-}
-
-fn refusal(answer: EventAnswer) -> Stepped
-    ensures { (result.answer ≡ answer) × (result.accepted ≡ false) }
-{
-    Stepped {
-        answer: answer,
-        accepted: false,
-        held: 0,
-        rows: 0,
-    }
 }
 
 // An event of a sound book in a sound state.
@@ -44,7 +30,7 @@ fn judged(
     next_at: &mut [u32; state::CAPACITY],
     next: &mut Words,
     out: &mut rows::Words,
-) -> Stepped
+) -> Result<Stepped, EventAnswer>
     requires { (book_sound book ≡ true) × (state_sound book state ≡ true) × (e.count ≤ argument_limit) }
     ensures { Decided book state (view_event e) (judgements book state (view_event e)) result
         next_at.new next.new out.new }
@@ -55,19 +41,14 @@ fn judged(
     state::load(state, book.variables, &mut at, &mut held);
     let r = matcher::take_event(book, book.begins, e, &at, &held, n, next_at, next, out);
     if r.free {
-        return refusal(EventAnswer::Unsound);
+        return Err(EventAnswer::Unsound);
     }
     if state.number == state::EVENTS {
-        return refusal(EventAnswer::TooMany);
+        return Err(EventAnswer::TooMany);
     }
-    if state::CAPACITY < r.held {
-        return refusal(EventAnswer::NoRoom);
-    }
-    Stepped {
-        answer: EventAnswer::Accepted,
-        accepted: true,
-        held: r.held,
-        rows: r.rows,
+    match r.held {
+        Some(held) => Ok(Stepped { held, rows: r.rows }),
+        None => Err(EventAnswer::NoRoom),
     }
 }
 
@@ -80,19 +61,18 @@ pub fn step(
     next_at: &mut [u32; state::CAPACITY],
     next: &mut Words,
     out: &mut rows::Words,
-) -> Stepped
+) -> Result<Stepped, EventAnswer>
     ensures { Decided book state (event_in bytes.now) (decisions book state bytes.now) result
         next_at.new next.new out.new }
 {
-    if sound::sound_book(book) {
-        if sound_state::sound_state(book, state) {
-            let d = record::decode(bytes);
-            if d.ok {
-                let e = d.event;
-                return judged(book, state, e, next_at, next, out);
-            }
-            return refusal(EventAnswer::OutOfForm);
-        }
+    if !sound::sound_book(book) {
+        return Err(EventAnswer::Unsound);
     }
-    refusal(EventAnswer::Unsound)
+    if !sound_state::sound_state(book, state) {
+        return Err(EventAnswer::Unsound);
+    }
+    match record::decode(bytes) {
+        Some(e) => judged(book, state, e, next_at, next, out),
+        None => Err(EventAnswer::OutOfForm),
+    }
 }

@@ -2,88 +2,112 @@
 // by the declarative meaning; then a reordered copy of each trace is run and partners are compared. Prints what was compared.
 #![tactic(auto)]
 
-use cells::SCORE;
+use book::Book;
+use std::alloc::{AllocError, Global};
 use std::io;
 use tally::Tally;
+use trial::{BUFFER_BYTES, EVENTS, Trial};
 
 // 4,000 books, and two traces to each that is accepted. A trace has three runs.
 const TRIALS: u64 = 8000;
 
-// Document 01's answers to a record that is refused.
-const UNSOUND: usize = SCORE + 9;
+// The answers to a record: 0, and document 01's to one that is refused.
+const ANSWERS: usize = 16;
 
-const OUT_OF_FORM: usize = SCORE + 10;
+const REFUSALS: usize = 9;
 
-const TOO_MANY: usize = SCORE + 11;
+const LAST_REFUSAL: usize = 13;
 
-const NO_ROOM: usize = SCORE + 12;
+// Calls by their answers, but those that were not as they should be, and those; traces and rows.
+#[derive(Drop)]
+struct Score {
+    answered: [u32; ANSWERS],
+    differences: u32,
+    traces: u32,
+    rows: usize,
+}
 
-const NO_SPACE: usize = SCORE + 13;
+impl Score {
+    // A call, and whether it was as it should be.
+    fn count(&mut self, right: bool, answer: usize, rows: usize) {
+        if !right {
+            self.differences = self.differences.saturating_add(1);
+        } else if let Some(n) = self.answered.get_mut(answer) {
+            *n = n.saturating_add(1);
+        }
+        self.rows = self.rows.saturating_add(rows);
+    }
+
+    fn report(&self, rt: &impl Print) -> io::Result<()> {
+        let Score {
+            answered,
+            differences,
+            traces,
+            rows,
+        } = self;
+        let books = traces / 2;
+        println!(rt; "{books} books")?;
+        println!(rt; "{traces} traces, three runs of each")?;
+        println!(rt; "{rows} rows")?;
+        line(rt, answered[0], 0)?;
+        for number in REFUSALS..=LAST_REFUSAL {
+            line(rt, answered[number], number)?;
+        }
+        println!(rt; "{differences} differences")
+    }
+}
+
+fn line(rt: &impl Print, n: u32, number: usize) -> io::Result<()> {
+    println!(rt; "{n} answered {number}")
+}
 
 fn main(rt: HostRuntime) -> io::Result<()> {
-    let mut trial = [0u32; cells::WORDS];
-    let mut bytes = [0u8; cells::BYTES];
-    judged(&mut trial, &mut bytes);
-    report(&rt, &trial)
+    let mut score = Score {
+        answered: [0; ANSWERS],
+        differences: 0,
+        traces: 0,
+        rows: 0,
+    };
+    for i in 0..TRIALS {
+        judged(rt.alloc(), i, &mut score)?;
+    }
+    score.report(&rt)
 }
 
 // A first run tells which events are accepted, so that the second matcher can list their rows; in the second run these are compared;
 // the third has the events in another order.
-fn judged(trial: &mut [u32], bytes: &mut [u8]) {
-    let mut i: u64 = 0;
-    while i < TRIALS {
-        invented::words(i, trial);
-        let size = invented::bytes(i, trial, bytes);
-        run(trial, bytes, size);
-        second::rows(trial);
-        run(trial, bytes, size);
-        second::reorder(trial);
-        run(trial, bytes, size);
-        i += 1;
+fn judged(alloc: Global, i: u64, score: &mut Score) -> Result<(), AllocError> {
+    let mut trial = invented::trial(i);
+    let text = invented::text(alloc, &trial.book)?;
+    let reading = watch::read(&text);
+    if book::number_of(reading.answer) != 0 {
+        return Ok(());
     }
+    score.traces = score.traces.saturating_add(1);
+    run(reading.book, &mut trial, score);
+    second::rows(&mut trial);
+    run(reading.book, &mut trial, score);
+    second::reorder(&mut trial);
+    run(reading.book, &mut trial, score);
+    Ok(())
 }
 
-// The text read, and the events of the trial in order, from the fresh state on.
-fn run(trial: &mut [u32], bytes: &[u8], size: usize) {
-    let r = watch::read(cells::part(bytes, cells::TEXT, size));
-    let read = r.answer;
-    let book = r.book;
-    let calls = second::calls(book::number_of(read));
+// The events of the trial in order, from the fresh state on.
+fn run(book: Book, trial: &mut Trial, score: &mut Score) {
     let mut state = watch::fresh();
     let mut tally = Tally::none();
-    let mut i: usize = 0;
-    while i < calls {
-        let mut rows = [255u8; cells::BUFFER_BYTES];
-        let t = watch::event(
-            book,
-            state,
-            cells::record(trial, bytes, i),
-            &mut rows,
-            cells::place(trial, i),
-            tally,
-        );
-        let answer = t.answer;
+    for i in 0..EVENTS {
+        let Some(event) = trial.event(i) else {
+            return;
+        };
+        let place = event.place;
+        let mut rows = [255u8; BUFFER_BYTES];
+        let t = watch::event(book, state, event.sent(), &mut rows, place, tally);
         state = t.state;
         tally = t.tally;
-        second::note(trial, i, watch::number_of(answer), t.rows, &rows);
-        i += 1;
+        let answer = watch::number_of(t.answer);
+        let listing = rows.get(place..).unwrap_or(&[]);
+        let right = second::note(trial, i, answer == 0, t.rows, listing);
+        score.count(right, answer, t.rows);
     }
-}
-
-fn line(rt: &impl Print, n: u32, word: &str) -> io::Result<()> {
-    println!(rt; "{n}{word}")
-}
-
-fn report(rt: &impl Print, trial: &[u32]) -> io::Result<()> {
-    let traces = second::traces(trial);
-    line(rt, traces / 2, " books")?;
-    line(rt, traces, " traces, three runs of each")?;
-    line(rt, cells::get(trial, cells::ROW_COUNT), " rows")?;
-    line(rt, cells::get(trial, SCORE), " answered 0")?;
-    line(rt, cells::get(trial, UNSOUND), " answered 9")?;
-    line(rt, cells::get(trial, OUT_OF_FORM), " answered 10")?;
-    line(rt, cells::get(trial, TOO_MANY), " answered 11")?;
-    line(rt, cells::get(trial, NO_ROOM), " answered 12")?;
-    line(rt, cells::get(trial, NO_SPACE), " answered 13")?;
-    line(rt, cells::get(trial, SCORE + cells::WRONG), " differences")
 }

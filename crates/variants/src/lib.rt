@@ -4,92 +4,92 @@
 
 mod bases;
 
-use bases::NONE;
-pub use bases::{BASES, ROOM, base, push, zeros};
+pub use bases::{BASES, spaces, zeros};
+use std::alloc::{AllocError, Global};
 
-// The bytes that are put in; the kinds of edits: six, and two for each of these.
-const OTHERS: usize = 23;
+// The bytes that are put in.
+const OTHERS: [u8; 23] = *b" \n\r\t\0abz01569_*+?|()A\xff=";
 
-pub const KINDS: usize = 6 + 2 * OTHERS;
-
-// What is kept of a text from its start, what follows then, and from where on the text goes on.
+// What is done at a place. There are so many kinds: six, and two for each byte that is put in.
 #[derive(Clone, Copy)]
-pub struct Edit {
-    pub keep: usize,
-    pub first: u32,
-    pub second: u32,
-    pub from: usize,
+pub enum Kind {
+    Cut,
+    Omit,
+    Double,
+    OmitLine,
+    DoubleLine,
+    Exchange,
+    Insert(u8),
+    Replace(u8),
 }
 
-fn other(j: usize) -> u32 {
-    bases::byte(b" \n\r\t\0abz01569_*+?|()A\xff=", j % OTHERS)
+pub const KINDS: usize = 6 + 2 * OTHERS.len();
+
+impl Kind {
+    // The kind with a number, from 0.
+    pub fn numbered(n: usize) -> Kind {
+        let other = OTHERS[n / 2 % OTHERS.len()];
+        match n {
+            0 => Kind::Cut,
+            1 => Kind::Omit,
+            2 => Kind::Double,
+            3 => Kind::OmitLine,
+            4 => Kind::DoubleLine,
+            5 => Kind::Exchange,
+            _ if n % 2 == 0 => Kind::Insert(other),
+            _ => Kind::Replace(other),
+        }
+    }
 }
 
-fn joined(keep: usize, from: usize) -> Edit {
+// An edited text: what is kept of the text from its start, up to two bytes, and the text again from some place on.
+#[derive(Clone, Copy)]
+struct Edit {
+    keep: usize,
+    between: [Option<u8>; 2],
+    from: usize,
+}
+
+fn edit_of(text: &[u8], kind: Kind, place: usize) -> Edit {
+    let p = place.min(text.len());
+    let (keep, between, from) = match kind {
+        Kind::Cut => (p, [None, None], text.len()),
+        Kind::Omit => (p, [None, None], p + 1),
+        Kind::Double => (p + 1, [None, None], p),
+        Kind::OmitLine => (p, [None, None], next_line(text, p)),
+        Kind::DoubleLine => (next_line(text, p), [None, None], p),
+        Kind::Exchange => {
+            let next = text.get(p + 1).copied();
+            (p, [next, text.get(p).copied()], p + 2)
+        }
+        Kind::Insert(b) => (p, [Some(b), None], p),
+        Kind::Replace(b) => (p, [Some(b), None], p + 1),
+    };
     Edit {
         keep,
-        first: NONE,
-        second: NONE,
+        between,
         from,
     }
 }
 
 // The place behind the LF of a line, or behind the text.
 fn next_line(text: &[u8], p: usize) -> usize {
-    let mut i = p;
-    while i < text.len() {
-        if bases::byte(text, i) == b'\n' as u32 {
-            return i + 1;
+    let rest = text.get(p..).unwrap_or(&[]);
+    match rest.iter().position(|b| *b == b'\n') {
+        Some(n) => p + n + 1,
+        None => text.len(),
+    }
+}
+
+// The text with an edit of a kind at a place.
+pub fn edited(alloc: Global, text: &[u8], kind: Kind, place: usize) -> Result<Vec<u8>, AllocError> {
+    let edit = edit_of(text, kind, place);
+    let mut out = Vec::from_slice(alloc, text.get(..edit.keep).unwrap_or(text))?;
+    for b in edit.between {
+        if let Some(b) = b {
+            out.push(b)?;
         }
-        i += 1;
     }
-    i
-}
-
-// The edit of a kind at a place.
-pub fn of_kind(text: &[u8], kind: usize, place: usize) -> Edit {
-    let p = place % bases::ROOM;
-    match kind {
-        0 => joined(p, text.len()),
-        1 => joined(p, p + 1),
-        2 => joined(p + 1, p),
-        3 => joined(p, next_line(text, p)),
-        4 => joined(next_line(text, p), p),
-        5 => Edit {
-            keep: p,
-            first: bases::byte(text, p + 1),
-            second: bases::byte(text, p),
-            from: p + 2,
-        },
-        _ => Edit {
-            keep: p,
-            first: other(kind / 2),
-            second: NONE,
-            from: p + kind % 2,
-        },
-    }
-}
-
-// Byte i of an edited text, where two places stand for the bytes that are put in.
-fn byte(text: &[u8], e: Edit, i: usize) -> u32 {
-    if i < e.keep {
-        return bases::byte(text, i);
-    }
-    match i - e.keep {
-        0 => e.first,
-        1 => e.second,
-        _ => bases::byte(text, e.from % bases::ROOM + (i - e.keep - 2) % bases::ROOM),
-    }
-}
-
-// The text with an edit is put into the buffer: how many bytes it has.
-pub fn edited(text: &[u8], e: Edit, out: &mut [u8]) -> usize {
-    let last = e.keep % bases::ROOM + 2 + text.len() % bases::ROOM;
-    let mut n: usize = 0;
-    let mut i: usize = 0;
-    while i < last {
-        n = bases::push(out, n, byte(text, e, i));
-        i += 1;
-    }
-    n
+    out.extend_from_slice(text.get(edit.from..).unwrap_or(&[]))?;
+    Ok(out)
 }

@@ -33,7 +33,7 @@ use Rattle.tally.specs.declared.Tally.{Tally}
 use Rattle.tally.specs.Tallies.{tallied}
 use Rattle.calls.specs.Calls.{is_accepted, rows_by, no_space, decisions, answer_to, taken, buffer_after}
 use Rattle.transition.specs.declared.Stepped.{Stepped}
-use Rattle.transition.specs.Moves.{Moved, Decided}
+use Rattle.transition.specs.Moves.{Moved}
 use Rattle.calls.specs.declared.EventAnswer.{EventAnswer}
 use Rattle.calls.specs.declared.EventAnswer.TheVariants.{Accepted, NoSpace}
 use Rattle.calls.specs.declared.Taken.{Taken}
@@ -44,9 +44,8 @@ abbrev step_answer : Book → State → Bytes → EventAnswer
 step_answer b s r = first_failing Accepted (decisions b s r)
 
 -- the pure step accepts where none of its checks fails
-pub step_passed : (b : Book) (s : State) (r : Bytes) {x : Stepped} {at next out : List ℕ} → Decided b s (event_in r) (decisions b s r) x at next out
-    → x.accepted ≡ true → is_accepted (step_answer b s r) ≡ true
-step_passed b s r d h = sym (ap is_accepted d.first) ∙ sym d.flag ∙ h
+pub step_passed : (b : Book) (s : State) (r : Bytes) → Accepted ≡ step_answer b s r → is_accepted (step_answer b s r) ≡ true
+step_passed b s r h = ap is_accepted (sym h)
 
 -- where no check before the buffer's fails the book is sound
 pub passed_variables : (b : Book) (s : State) (r : Bytes) → is_accepted (step_answer b s r) ≡ true → b.variables ≤ 4

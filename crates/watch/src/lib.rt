@@ -35,12 +35,10 @@ pub fn event(
     let mut words = [0u32; rows::WORDS];
     let mut next_at = [0u32; state::CAPACITY];
     let mut next = [0u32; packed::WORDS];
-    let s = transition::step(book, state, bytes, &mut next_at, &mut next, &mut words);
-    if s.accepted {
-        return outcome::settled(
+    match transition::step(book, state, bytes, &mut next_at, &mut next, &mut words) {
+        Ok(s) => outcome::settled(
             book, state, &next_at, &next, s.held, &words, s.rows, rows, place, tally,
-        );
+        ),
+        Err(answer) => outcome::refused(answer, book, state, tally),
     }
-    let answer = s.answer;
-    outcome::refused(answer, book, state, tally)
 }

@@ -1,2 +1,3 @@
--- Laws for the proofs of the functions: what the tests of a fixed number find at its place in a text (Numbers).
+-- Laws for the readers of words: digits read, and the test of a fixed number.
+pub mod Digits
 pub mod Numbers

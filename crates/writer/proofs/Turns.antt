@@ -1,8 +1,9 @@
--- A turn of the loop of put_rows: the bytes of the next valuation, with the fields that all rows share, right behind those of the first i.
+-- A part written over in place, as a splice; and a turn of the loop of put_rows: the bytes of the next valuation, with the fields that all rows share, right behind those of the first i.
 use mathlib.Core.Path.{◌≡◌, ap, ◌∙◌}
 use mathlib.Core.List.{List, [], Memᴰ}
 use Prim.Native.Nat.{ℕ, ◌+◌, ◌*◌, ◌≤◌, ◌<◌}
 use native.Mathlib.Omega.{arith}
+use borrow.Rule.Slice.PartMut.{put_mid}
 use lib.ListN.{length, take, get_or}
 use Rattle.laws.specs.Lists.{gather}
 use Rattle.laws.specs.Parts.{front, splice}
@@ -14,6 +15,10 @@ use Rattle.rows.proofs.Valuations.{in_length, wide_in}
 use Rattle.row.specs.RowBytes.{bytes_of, with_values}
 use Rattle.row.specs.declared.RowFields.{RowFields}
 use Rattle.row.proofs.RowBytes.{bytes_length}
+
+pub put_splice : {A : Type 0} (p k : ℕ) (b l : List A) {m : List A} → length b ≡ k → m ≡ b → put_mid p k l m ≡ splice p b l
+unfolding splice front
+put_splice p k b l h e = rw (e, ← h)
 
 module _ (shared : RowFields) (w : List ℕ) where
   abbrev row_of : Valuation → List ℕ

@@ -13,32 +13,18 @@ pub use row::ROW;
 use row::RowFields;
 use rows::Words;
 
-// One row over the beginning of a part.
-fn put_row(out: &mut [u8], row: [u8; ROW])
-    requires { row_size ≤ length out.old }
-    ensures { out.new ≡ front row out.old }
-{
-    let mut i: usize = 0;
-    while i < ROW {
-        out[i] = row[i];
-        i += 1;
-    }
-}
-
 // The first n rows over the beginning of a part. They share all fields but the values.
 fn put_rows(out: &mut [u8], words: &Words, n: usize, shared: RowFields)
     requires { (shared.variables ≤ variable_limit) × (n ≤ row_limit) × (row_size * n ≤ length out.old) }
     ensures { out.new ≡ front (gather (λ σ. bytes_of (with_values shared σ)) (take n (valuations_in words.now))) out.old }
 {
-    let mut i: usize = 0;
-    while i < n {
-        let x = rows::get(words, i);
-        let mut r = shared;
-        r.values = x;
-        let row = row::row_bytes(r);
+    for i in 0..n {
+        let row = row::row_bytes(RowFields {
+            values: rows::get(words, i),
+            ..shared
+        });
         let at = ROW * i;
-        put_row(&mut out[at..], row);
-        i += 1;
+        out[at..at + ROW].copy_from_slice(&row);
     }
 }
 

@@ -7,4 +7,4 @@ use Rattle.book.proofs.empty_book.Goals as goal
 
 pub returns : goal.returns
 unfolding empty_book table_of no_piece
-returns c = c.book_of.ensures ∙ rw (c.nothing-x.ensures, c.no_table-t.ensures)
+returns c = c.book_of.ensures ∙ rw (c.nothing.ensures, c.no_table.ensures)

@@ -8,6 +8,6 @@ pub returns-then-words-eq-LAYOUT : goal.returns-then-words-eq-LAYOUT
 unfolding book_in
 returns-then-words-eq-LAYOUT c = rw (eq-eqb (get_or c.args.words.now 0 0) 1001 c.if-words-eq-LAYOUT.true) c.held.ensures
 
-pub returns : goal.returns
+pub returns-else-words-eq-LAYOUT : goal.returns-else-words-eq-LAYOUT
 unfolding book_in
-returns c = rw (ne_eqb (get_or c.args.words.now 0 0) 1001 c.if-words-eq-LAYOUT.false) c.empty_book.ensures
+returns-else-words-eq-LAYOUT c = rw (ne_eqb (get_or c.args.words.now 0 0) 1001 c.if-words-eq-LAYOUT.false) c.empty_book.ensures

@@ -5,4 +5,4 @@ use Rattle.book_block.proofs.held.Goals as goal
 pub returns : goal.returns
 returns c =
     let w = c.args.words.now in
-    parts_held w c.names_in-names.ensures c.table_in-table.ensures c.numbers_in-occurrences.ensures c.numbers_in-follows.ensures
+    parts_held w c.names_in.ensures c.table_in.ensures c.numbers_in.ensures c.numbers_in-2.ensures

@@ -9,6 +9,3 @@ use Rattle.book_block.proofs.names_in.Given as goal
 
 abbrev pub invariant-loop-i : goal.invariant-loop-i
 invariant-loop-i l = (l.i ≤ 20) × (length l.names ≡ 20) × (take l.i l.names ≡ map name_in (take l.i (groups 2 20 l.words)))
-
-abbrev pub decreases-loop-i : goal.decreases-loop-i
-decreases-loop-i l = 20 - l.i

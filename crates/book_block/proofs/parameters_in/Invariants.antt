@@ -9,6 +9,3 @@ use Rattle.book_block.proofs.parameters_in.Given as goal
 
 abbrev pub invariant-loop-i : goal.invariant-loop-i
 invariant-loop-i l = (l.i ≤ 4) × (length l.parameters ≡ 4) × (take l.i l.parameters ≡ map parameter_in (take l.i (groups 2 4 l.words)))
-
-abbrev pub decreases-loop-i : goal.decreases-loop-i
-decreases-loop-i l = 4 - l.i

@@ -1,15 +1,14 @@
 -- `put_head` meets its contract: seven words written one after the other are a front; the flag is 1 or 0.
-use mathlib.Core.Path.{◌≡◌, sym, ap, ◌∙◌}
-use mathlib.Core.List.{List, [], ◌∷◌}
-use Prim.Native.Nat.{ℕ}
+use mathlib.Core.Path.{◌≡◌, refl}
+use mathlib.Core.Bool.{Bool, true, false}
+use mir.Val.{bool_byte}
 use native.Mathlib.Omega.{arith}
 use lib.ListN.{length-set}
 use lib.Seq.{sets-eq}
 use Rattle.laws.specs.Parts.{front}
-use Rattle.blocks.specs.BookBlock.{flag}
+use Rattle.blocks.specs.BookBlock.{book_head, flag}
 use Rattle.book_block.proofs.Splits.{book_numbers}
 use Rattle.book_block.proofs.put_head.Goals as goal
-use Rattle.book_block.proofs.put_head.Goals.{then-b, else-b}
 
 pub overflow_cast-words : goal.overflow_cast-words
 overflow_cast-words c = omega (arith, book_numbers c.args.b c.requires.1)
@@ -29,10 +28,11 @@ bounds-words-5 c = simp length-set (omega arith)
 pub bounds-words-6 : goal.bounds-words-6
 bounds-words-6 c = simp length-set (omega arith)
 
+-- a flag as a word
+flag_word : (e : Bool) → bool_byte e ≡ flag e
+flag_word true = refl
+flag_word false = refl
+
 pub returns : goal.returns
 unfolding front
-returns c =
-    let b = c.args.b in
-    let with : ℕ → List ℕ = λ x. 1001 ∷ b.variables ∷ b.symbols ∷ b.positions ∷ b.begins ∷ b.ends ∷ x ∷ [] in
-    let e : c.if-b.words ≡ flag b.empty = elim c.if-b.branch [ then-b w ↦ w.words-is ∙ sym (ap flag w.if-b.true) | else-b w ↦ w.words-is ∙ sym (ap flag w.if-b.false) ] in
-    sets-eq (with c.if-b.words) c.args.words.now 0 (omega arith) ∙ ap (λ x. front (with x) c.args.words.now) e
+returns c = rw (flag_word c.args.b.empty) (sets-eq (book_head c.args.b) c.args.words.now 0 (omega arith))

@@ -9,6 +9,3 @@ use Rattle.book_block.proofs.put_names.Given as goal
 
 abbrev pub invariant-loop-i : goal.invariant-loop-i
 invariant-loop-i l = (l.i ≤ 20) × (length l.words ≡ length l.initial.words) × (l.words ≡ front (gather name_words (take l.i l.names)) l.initial.words)
-
-abbrev pub decreases-loop-i : goal.decreases-loop-i
-decreases-loop-i l = 20 - l.i

@@ -9,6 +9,3 @@ use Rattle.book_block.proofs.put_parameters.Given as goal
 
 abbrev pub invariant-loop-i : goal.invariant-loop-i
 invariant-loop-i l = (l.i ≤ 4) × (length l.words ≡ length l.initial.words) × (l.words ≡ front (gather parameter_words (take l.i l.parameters)) l.initial.words)
-
-abbrev pub decreases-loop-i : goal.decreases-loop-i
-decreases-loop-i l = 4 - l.i

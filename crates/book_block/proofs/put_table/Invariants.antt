@@ -9,6 +9,3 @@ use Rattle.book_block.proofs.put_table.Given as goal
 
 abbrev pub invariant-loop-i : goal.invariant-loop-i
 invariant-loop-i l = (l.i ≤ 16) × (length l.words ≡ length l.initial.words) × (l.words ≡ front (gather symbol_words (take l.i l.symbols)) l.initial.words)
-
-abbrev pub decreases-loop-i : goal.decreases-loop-i
-decreases-loop-i l = 16 - l.i

@@ -11,5 +11,5 @@ pub returns : goal.returns
 unfolding symbol_in
 returns c =
     let w = c.args.words.now in
-    let rest = c.parameters_in-parameters.ensures ∙ ap (λ r. map parameter_in (groups 2 4 r)) (lent_rest 2 w) in
+    let rest = c.parameters_in.ensures ∙ ap (λ r. map parameter_in (groups 2 4 r)) (lent_rest 2 w) in
     ap (λ ps. record { kind = get_or w 0 0; count = get_or w 1 0; parameters = ps }) rest

@@ -9,6 +9,3 @@ use Rattle.book_block.proofs.table_in.Given as goal
 
 abbrev pub invariant-loop-i : goal.invariant-loop-i
 invariant-loop-i l = (l.i ≤ 16) × (length l.symbols ≡ 16) × (take l.i l.symbols ≡ map symbol_in (take l.i (groups 10 16 l.words)))
-
-abbrev pub decreases-loop-i : goal.decreases-loop-i
-decreases-loop-i l = 16 - l.i

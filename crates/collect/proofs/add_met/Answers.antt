@@ -2,6 +2,7 @@
 use mathlib.Core.Path.{sym, ap, ap₂, ◌∙◌}
 use mathlib.Core.Bool.{◌||◌}
 use lib.ListN.{take}
+use Rattle.std.proofs.Common.{Some}
 use Rattle.laws.specs.Lists.{any}
 use Rattle.laws.specs.Sets.{grow}
 use Rattle.meaning.specs.Labels.{is_free}
@@ -13,20 +14,19 @@ use Rattle.rows.specs.Valuations.{rows_grown}
 use Rattle.collect.specs.Yields.{yield_in}
 use Rattle.collect.proofs.add_met.Goals as goal
 
-pub returns-then-x : goal.returns-then-x
-returns-then-x c =
+pub returns-in-Some-clause-gives : goal.returns-in-Some-clause-gives
+returns-in-Some-clause-gives c =
     let a = c.args in
-    let m = c.meet-x.ensures in
-    let same = m.1 c.if-x.true in
+    let m = c.in-Some.ensures in
+    let same = m.met in
     ap₂ (λ g f. record { rows = g; free = f })
-    (c.insert_row-n.ensures
+    (c.insert_row-rows.ensures.set
     ∙ ap (λ σ. grow compare_valuations row_limit σ (rows_grown a.found.rows a.out.now)) (c.values.ensures ∙ ap valuation_of same))
     (c.either-free.ensures
     ∙ ap (λ f. a.found.free || f) (c.leaves_free.ensures ∙ ap (λ D. any is_free (take a.v D)) same))
-    ∙ sym (yield_met a.v (view_constraint a.c) (view_disjunct a.d) (yield_in a.found a.out.now) (sym m.0 ∙ c.if-x.true))
+    ∙ sym (yield_met a.v (view_constraint (Some a.c)) (view_disjunct a.d) (yield_in a.found a.out.now) (sym m.meets))
 
-pub returns : goal.returns
-returns c =
+pub returns-in-None-clause-gives : goal.returns-in-None-clause-gives
+returns-in-None-clause-gives c =
     let a = c.args in
-    sym (yield_unmet a.v (view_constraint a.c) (view_disjunct a.d) (yield_in a.found a.out.now)
-    (sym c.meet-x.ensures.0 ∙ c.if-x.false))
+    sym (yield_unmet a.v (view_constraint (Some a.c)) (view_disjunct a.d) (yield_in a.found a.out.now) (sym c.in-None.ensures.meets))

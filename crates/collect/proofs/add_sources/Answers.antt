@@ -5,6 +5,7 @@ use mathlib.Core.List.{[], ◌∷◌}
 use Prim.Native.Nat.{◌+◌}
 use native.Mathlib.Omega.{arith}
 use lib.ListN.{get_or}
+use Rattle.std.proofs.Common.{Some}
 use Rattle.bounded.specs.Bounded.{rows_ascend, yield_with}
 use Rattle.bounded.proofs.RowSets.{yield_append, yield_none, yield_ascends}
 use Rattle.demand.specs.Constraints.{view_constraint}
@@ -16,7 +17,7 @@ use Rattle.collect.proofs.add_sources.Goals as goal
 use Rattle.collect.proofs.add_sources.Goals.{then-has, else-has}
 
 pub loop-i-init : goal.loop-i-init
-loop-i-init c = (omega arith, c.requires.4, refl)
+loop-i-init c = (c.requires.4, c.requires.5, refl)
 
 pub loop-i-preserved : goal.loop-i-preserved
 loop-i-preserved c =
@@ -27,30 +28,30 @@ loop-i-preserved c =
     (omega (arith, c.requires.0, in_length a.held.now)) c.loop-i-test.true (sym c.has.ensures ∙ e) in
     let p = c.loop-i in
     let a = c.args in
-    let C = view_constraint a.c in
+    let C = view_constraint (Some a.c) in
     let D = get_or (disjuncts_in a.held.now) p.i [] in
     let y = yield_in p.r p.out in
     elim c.if-has.branch [
       | then-has w ↦
           let added : yield_in c.if-has.r c.if-has.out ≡ yield_with a.v C (D ∷ []) y =
-          ap₂ yield_in w.r-is w.out-is ∙ w.add_met-r.ensures ∙ ap (λ E. yield_with a.v C (E ∷ []) y) w.get-d.ensures in (
-            omega arith,
+          ap₂ yield_in w.r-is w.out-is ∙ w.add_met-r.ensures.gives ∙ ap (λ E. yield_with a.v C (E ∷ []) y) w.get.ensures in (
+            rw w.r-is w.add_met-r.ensures.few,
             ap (λ z. rows_ascend z.rows) added ∙ yield_ascends a.v C (D ∷ []) y p.invariant.1,
             ap (yield_with a.v C _) added ∙ sym (yield_append a.v C (D ∷ []) _ y) ∙ ap (λ l. yield_with a.v C l y) (sym (next true w.if-has.true)) ∙ p.invariant.2,
           )
       | else-has w ↦
           let same = ap₂ yield_in w.r-is w.out-is in (
-            omega arith,
+            rw w.r-is p.invariant.0,
             ap (λ z. rows_ascend z.rows) same ∙ p.invariant.1,
             ap₂ (yield_with a.v C) (sym (next false w.if-has.false)) same ∙ p.invariant.2,
           )
     ]
 
-pub returns : goal.returns
-returns c =
+pub returns-clause-gives : goal.returns-clause-gives
+returns-clause-gives c =
     let p = c.loop-i in
     let a = c.args in
-    let C = view_constraint a.c in
+    let C = view_constraint (Some a.c) in
     let l = disjuncts_in a.held.now in
     sym (ap (λ k. yield_with a.v C k (yield_in p.r p.out)) (ahead_none a.q a.masks.now l a.n p.i c.loop-i-test.false)
     ∙ yield_none a.v C (yield_in p.r p.out))

@@ -1,7 +1,9 @@
 -- `collect::add_sources` meets its contract: what is found with the meetings of the disjuncts ahead is what all of them give.
 use mathlib.Core.Path.{◌≡◌}
 use mathlib.Core.Bool.{true}
-use Prim.Native.Nat.{◌-◌, ◌≤◌}
+use Prim.Native.Nat.{◌≤◌}
+use Rattle.std.proofs.Common.{Some, IfSome}
+use Rattle.meaning.specs.Rows.{row_limit}
 use Rattle.bounded.specs.Bounded.{rows_ascend, yield_with}
 use Rattle.demand.specs.Constraints.{view_constraint}
 use Rattle.packed.specs.Sets.{disjuncts_in}
@@ -12,9 +14,6 @@ use Rattle.collect.proofs.add_sources.Given as goal
 
 abbrev pub invariant-loop-i : goal.invariant-loop-i
 invariant-loop-i l =
-    (l.i ≤ l.n) × (rows_ascend (rows_grown l.r.rows l.out) ≡ true)
-    × (yield_with l.v (view_constraint l.c) (ahead l.q l.masks (disjuncts_in l.held) l.n l.i) (yield_in l.r l.out)
-    ≡ yield_with l.v (view_constraint l.c) (ahead l.q l.masks (disjuncts_in l.held) l.n 0) (yield_in l.initial.r l.initial.out))
-
-abbrev pub decreases-loop-i : goal.decreases-loop-i
-decreases-loop-i l = l.n - l.i
+    IfSome l.r.rows (λ m. m ≤ row_limit) × (rows_ascend (rows_grown l.r.rows l.out) ≡ true)
+    × (yield_with l.v (view_constraint (Some l.c)) (ahead l.q l.masks (disjuncts_in l.held) l.n l.i) (yield_in l.r l.out)
+    ≡ yield_with l.v (view_constraint (Some l.c)) (ahead l.q l.masks (disjuncts_in l.held) l.n 0) (yield_in l.initial.r l.initial.out))

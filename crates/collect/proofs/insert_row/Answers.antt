@@ -1,24 +1,24 @@
 -- `collect::insert_row` meets its contract: with room it is the insertion of `rows`, and without room nothing is put.
-use mathlib.Core.Path.{sym, ap, ◌∙◌}
-use native.Mathlib.Omega.{arith}
+use mathlib.Core.Path.{◌≡◌, sym, ap, ◌∙◌}
+use mathlib.Core.Bool.{true}
+use borrow.Author.Rules.{rules}
 use Rattle.laws.specs.Sets.{grow}
 use Rattle.meaning.specs.Rows.{row_limit, compare_valuations}
 use Rattle.bounded.specs.Bounded.{rows_ascend}
-use Rattle.rows.proofs.Valuations.{in_grown, in_full}
+use Rattle.rows.specs.Valuations.{rows_grown}
 use Rattle.collect.proofs.insert_row.Goals as goal
-
-pub returns-then-m-gt-ROWS : goal.returns-then-m-gt-ROWS
-returns-then-m-gt-ROWS c =
-    let a = c.args in
-    in_full 2065 a.out.now (omega arith) ∙ sym (ap (grow compare_valuations row_limit a.x) (in_full a.m a.out.now c.if-m-gt-ROWS.true))
 
 pub insert_row-requires : goal.insert_row-requires
 insert_row-requires c =
     let a = c.args in
-    let few = c.if-m-gt-ROWS.false in
-    (few, ap rows_ascend (sym (in_grown a.m a.out.now few)) ∙ c.requires)
+    (rw c.in-Some.is at c.requires.0, ap (λ o. rows_ascend (rows_grown o a.out.now)) (sym c.in-Some.is) ∙ c.requires.1)
 
-pub returns : goal.returns
-returns c =
+pub returns-in-Some-clause-set : goal.returns-in-Some-clause-set
+returns-in-Some-clause-set c =
     let a = c.args in
-    c.insert_row.ensures ∙ sym (ap (grow compare_valuations row_limit a.x) (in_grown a.m a.out.now c.if-m-gt-ROWS.false))
+    c.insert_row.ensures.set ∙ ap (λ o. grow compare_valuations row_limit a.x (rows_grown o a.out.now)) (sym c.in-Some.is)
+
+pub returns-in-None-clause-set : goal.returns-in-None-clause-set
+returns-in-None-clause-set c =
+    let a = c.args in
+    ap (λ o. grow compare_valuations row_limit a.x (rows_grown o a.out.now)) (sym c.in-None.is)

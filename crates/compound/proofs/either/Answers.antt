@@ -13,4 +13,4 @@ returns c vars a b k ex ey =
     let s = c.args in
     let t : c.if-x.result ≡ (s.x.empty || s.y.empty) =
     elim c.if-x.branch [ then-x w ↦ rw w.if-x.true (w.result-is ∙ w.if-x.true) | else-x w ↦ rw w.if-x.false w.result-is ] in
-    rw (t, c.joined-follows.ensures, c.joined-symbols.ensures) (ap₂ either_of ex ey ∙ either_whole vars a b k)
+    rw (t, c.joined-2.ensures, c.joined.ensures) (ap₂ either_of ex ey ∙ either_whole vars a b k)

@@ -6,4 +6,4 @@ use Rattle.compound.proofs.plus.Goals as goal
 
 pub returns : goal.returns
 unfolding plus_of with_arrays linked_of
-returns c vars a k e = rw c.linked-more.ensures (ap plus_of e ∙ plus_whole vars a k)
+returns c vars a k e = rw c.linked.ensures (ap plus_of e ∙ plus_whole vars a k)

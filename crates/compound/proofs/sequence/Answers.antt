@@ -13,6 +13,6 @@ returns c vars a b k ex ey =
     let s = c.args in
     let t : c.if-x.result ≡ (s.x.empty && s.y.empty) =
     elim c.if-x.branch [ then-x w ↦ rw w.if-x.true w.result-is | else-x w ↦ rw w.if-x.false (w.result-is ∙ w.if-x.false) ] in
-    sequence_made s.x s.y t c.given-begins.ensures c.given-ends.ensures (is_joined _ _ c.joined-symbols.ensures)
-    (is_joined _ _ c.joined-both.ensures) (is_linked _ _ _ c.linked-follows.ensures)
+    sequence_made s.x s.y t c.given.ensures c.given-2.ensures (is_joined _ _ c.joined.ensures)
+    (is_joined _ _ c.joined-both.ensures) (is_linked _ _ _ c.linked.ensures)
     ∙ ap₂ sequence_of ex ey ∙ sequence_whole vars a b k

@@ -1,6 +1,5 @@
 -- `constraint::consistent` meets its contract: the demands from i on decide, as long as each one passed agrees with those behind it.
 use mathlib.Core.Path.{◌≡◌, sym, ◌∙◌}
-use native.Mathlib.Omega.{arith}
 use borrow.Author.Rules.{rules}
 use lib.ListN.{length}
 use Rattle.laws.proofs.Arrays.{map_length}
@@ -11,11 +10,11 @@ pub loop-i-preserved : goal.loop-i-preserved
 loop-i-preserved c =
     let long : length c.args.c.demands ≡ 4 = search (rules, map_length) in
     let l = c.loop-i in
-    let h = sym c.agrees_from.ensures ∙ c.if-agrees_from.true in
-    (omega arith, sym (consistent_next c.args.c long c.requires.few l.i c.loop-i-test.true h) ∙ l.invariant.1)
+    let h = sym c.agrees_from.ensures ∙ c.if-not-agrees_from.false in
+    sym (consistent_next c.args.c long c.requires.few l.i c.loop-i-test.true h) ∙ l.invariant
 
 pub returns : goal.returns
 returns c =
     let long : length c.args.c.demands ≡ 4 = search (rules, map_length) in
     let l = c.loop-i in
-    sym (consistent_none c.args.c long c.requires.few l.i c.loop-i-test.false) ∙ l.invariant.1
+    sym (consistent_none c.args.c long c.requires.few l.i c.loop-i-test.false) ∙ l.invariant

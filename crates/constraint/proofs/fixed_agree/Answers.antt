@@ -2,7 +2,6 @@
 use mathlib.Core.Path.{◌≡◌, sym, ◌∙◌}
 use mathlib.Core.Bool.{Bool, true, false, ◌&&◌}
 use Prim.Native.Nat.{ℕ, ◌+◌}
-use native.Mathlib.Omega.{arith}
 use borrow.Author.Rules.{rules}
 use lib.ListN.{length, get_or}
 use Rattle.laws.proofs.Arrays.{map_length}
@@ -15,7 +14,7 @@ use Rattle.constraint.proofs.fixed_agree.Goals as goal
 use Rattle.constraint.proofs.fixed_agree.Goals.{else-p-eq2-via-then-p-eq2+else-p-given, else-p-eq2-via-else-p-eq2}
 
 pub loop-i-init : goal.loop-i-init
-loop-i-init c = (omega arith, fixed_first c.args.y c.args.e c.requires.1)
+loop-i-init c = fixed_first c.args.y c.args.e c.requires.1
 
 pub returns-then-p-given : goal.returns-then-p-given
 returns-then-p-given c =
@@ -26,7 +25,7 @@ returns-then-p-given c =
     Events.fixed_at (view_parameter place) given ≡ b
     → (b && fixed_from a.y a.e (c.loop-i.i + 1)) ≡ Events.fixed_all (view_symbol a.y).parameters (view_event a.e).args = λ b e. let l = c.loop-i in
     let k = lengths in
-    sym (fixed_next c.args.y c.args.e l.i c.loop-i-test.true c.requires.0 k.0 k.1 e) ∙ l.invariant.1 in
+    sym (fixed_next c.args.y c.args.e l.i c.loop-i-test.true c.requires.0 k.0 k.1 e) ∙ l.invariant in
     next false (differs place given c.if-p-eq2.true c.if-p-given.true)
 
 pub loop-i-preserved : goal.loop-i-preserved
@@ -38,9 +37,9 @@ loop-i-preserved c =
     Events.fixed_at (view_parameter place) given ≡ b
     → (b && fixed_from a.y a.e (c.loop-i.i + 1)) ≡ Events.fixed_all (view_symbol a.y).parameters (view_event a.e).args = λ b e. let l = c.loop-i in
     let k = lengths in
-    sym (fixed_next c.args.y c.args.e l.i c.loop-i-test.true c.requires.0 k.0 k.1 e) ∙ l.invariant.1 in
+    sym (fixed_next c.args.y c.args.e l.i c.loop-i-test.true c.requires.0 k.0 k.1 e) ∙ l.invariant in
     let agrees : Events.fixed_at (view_parameter place) given ≡ true = elim c.else-p-eq2.branch [
       | else-p-eq2-via-then-p-eq2+else-p-given w ↦ agrees_at place given w.if-p-given.false
       | else-p-eq2-via-else-p-eq2 w ↦ unfixed place given w.if-p-eq2.false
     ] in
-    (omega arith, next true agrees)
+    next true agrees

@@ -1,6 +1,5 @@
 -- `constraint::fixed_agree` meets its contract: the places from i on decide, as long as those passed have their arguments.
 use mathlib.Core.Path.{◌≡◌}
-use Prim.Native.Nat.{◌-◌, ◌≤◌}
 use Rattle.meaning.specs.Events as Events
 use Rattle.table.specs.Tables.{view_symbol}
 use Rattle.record.specs.Records.{view_event}
@@ -8,7 +7,4 @@ use Rattle.constraint.proofs.Steps.{fixed_from}
 use Rattle.constraint.proofs.fixed_agree.Given as goal
 
 abbrev pub invariant-loop-i : goal.invariant-loop-i
-invariant-loop-i l = (l.i ≤ l.n) × (fixed_from l.y l.e l.i ≡ Events.fixed_all (view_symbol l.y).parameters (view_event l.e).args)
-
-abbrev pub decreases-loop-i : goal.decreases-loop-i
-decreases-loop-i l = l.n - l.i
+invariant-loop-i l = fixed_from l.y l.e l.i ≡ Events.fixed_all (view_symbol l.y).parameters (view_event l.e).args

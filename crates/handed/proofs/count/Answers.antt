@@ -3,4 +3,4 @@ use Rattle.handed.proofs.Carried.{tally_carried}
 use Rattle.handed.proofs.count.Goals as goal
 
 pub returns : goal.returns
-returns c = tally_carried _ _ _ _ _ c.lent_count.ensures
+returns c = tally_carried _ _ _ _ _ c.count.ensures

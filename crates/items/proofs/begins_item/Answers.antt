@@ -1,10 +1,6 @@
 -- `items::begins_item` meets its contract: a letter or an opening parenthesis, test by test.
+use Rattle.text.proofs.Runs.{at_none}
 use Rattle.items.proofs.begins_item.Goals as goal
 
-pub returns-then-is_lower : goal.returns-then-is_lower
-returns-then-is_lower c =
-    rw (← c.spaces_end-q.ensures, ← c.peek-c.ensures, ← c.is_lower.ensures, c.if-is_lower.true)
-
-pub returns-else-is_lower : goal.returns-else-is_lower
-returns-else-is_lower c =
-    rw (← c.spaces_end-q.ensures, ← c.peek-c.ensures, ← c.is_lower.ensures, c.if-is_lower.false)
+pub returns-in-None : goal.returns-in-None
+returns-in-None c = rw (← c.spaces_end-q.ensures, at_none _ _ c.peek.ensures c.in-None.is)

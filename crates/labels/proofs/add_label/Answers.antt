@@ -1,13 +1,16 @@
 -- `labels::add_label` meets its contract: the new label, and with room for it, what is held so far with it.
-use Rattle.labels.proofs.Held.{set_over, set_behind}
+use mathlib.Core.Path.{ap, ◌∙◌}
+use Rattle.bounded.specs.Bounded.{appended}
+use Rattle.packed.specs.Held.{held_in, held_grown}
 use Rattle.labels.proofs.add_label.Goals as goal
 
-pub returns-then-m-gt-CAPACITY : goal.returns-then-m-gt-CAPACITY
-returns-then-m-gt-CAPACITY c =
-    let l = c.new_label-m in
-    set_over _ l.result _ _ _ _ _ l.ensures c.if-m-gt-CAPACITY.true
+pub returns-in_err-m-clause-held : goal.returns-in_err-m-clause-held
+returns-in_err-m-clause-held c =
+    let a = c.args in
+    ap (λ r. held_grown r a.next_at.now a.next.now) c.from_residual.ensures
+    ∙ ap (appended a.q.number (held_in a.total a.next_at.now a.next.now)) c.in_err-m.ensures.set
 
-pub returns : goal.returns
-returns c =
-    let l = c.new_label-m in
-    set_behind _ l.result _ _ _ _ _ _ l.ensures c.if-m-gt-CAPACITY.false c.append_label.ensures
+pub returns-clause-held : goal.returns-clause-held
+returns-clause-held c =
+    let a = c.args in
+    c.append_label.ensures.held ∙ ap (appended a.q.number (held_in a.total a.next_at.now a.next.now)) c.in_ok-m.ensures.set

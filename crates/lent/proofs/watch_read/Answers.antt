@@ -27,8 +27,8 @@ pub returns : goal.returns
 returns c =
     let start = c.args in
     let read = c.read-r in (
-      read_refused start.text.now read.result read.ensures.0 _ _ (length start.book.now) c.clear.new.words
+      read_refused start.text.now read.result read.ensures.0 _ _ (length start.book.now) c.fill.new.self
           c.number_of-n.ensures c.place_of.ensures
-          c.if-n-eq0.false (search rules) c.clear.ensures,
+          c.if-n-eq0.false (search rules) (c.fill.ensures.after (λ y e. e)),
       read.ensures.1,
     )

@@ -1,7 +1,6 @@
 -- `advance_all` meets its contract: after k turns the first k books have taken the event, their states are stored and their rows written.
-use mathlib.Core.Path.{◌≡◌, ap, ◌∙◌}
+use mathlib.Core.Path.{◌≡◌, refl, ap, ◌∙◌}
 use Prim.Native.Nat.{◌<◌}
-use native.Mathlib.Nat.{mod-eq_of_lt}
 use native.Mathlib.Omega.{arith}
 use borrow.Author.Rules.{rules}
 use Rattle.laws.specs.Parts.{splice}
@@ -62,7 +61,7 @@ loop-k-preserved c =
           (own_size a.books.now a.states.now a.bytes.now l.k t.passes) t.fits
           (done.2 ∙ own_next a.books.now a.states.now a.bytes.now l.k t.book t.state)
           (done.1 ∙ ap (λ r. splice l.next r l.rows)
-          (own_bytes a.books.now a.states.now a.bytes.now l.k t.book t.state (mod-eq_of_lt small))),
+          (own_bytes a.books.now a.states.now a.bytes.now l.k t.book t.state refl)),
     )
 
 pub returns : goal.returns

@@ -1,6 +1,6 @@
 -- `fresh_all` meets its contract: after k turns the first k states are fresh, and the words behind them as they came.
 use mathlib.Core.Path.{◌≡◌}
-use Prim.Native.Nat.{◌-◌, ◌≤◌}
+use Prim.Native.Nat.{◌≤◌}
 use lib.ListN.{length}
 use Rattle.calls.specs.Calls.{fresh_state}
 use Rattle.blocks.specs.StateBlock.{state_size, state_words}
@@ -9,6 +9,3 @@ use Rattle.lent_set.proofs.fresh_all.Given as goal
 
 abbrev pub invariant-loop-k : goal.invariant-loop-k
 invariant-loop-k l = (l.k ≤ l.count) × (length l.states ≡ length l.initial.states) × (l.states ≡ blocks_over (λ k. state_words fresh_state) state_size l.initial.states l.k)
-
-abbrev pub decreases-loop-k : goal.decreases-loop-k
-decreases-loop-k l = l.count - l.k

@@ -3,6 +3,7 @@ use mathlib.Core.Path.{◌≡◌, refl, sym, ap, ap₂, ◌∙◌}
 use Prim.Native.Nat.{◌+◌}
 use native.Mathlib.Omega.{arith}
 use borrow.Author.Rules.{rules}
+use Rattle.std.proofs.lemmas.Result.{err_from_is_err_and}
 use Rattle.record.specs.Records.{event_in}
 use Rattle.parts.specs.Parts.{rows_together}
 use Rattle.parts.specs.SetBlock.{parts_in}
@@ -16,41 +17,37 @@ loop-k-init c =
     (search rules, refl, search rules, first_all a.books.now a.states.now a.bytes.now a.count)
 
 pub overflow_add-rows : goal.overflow_add-rows
-overflow_add-rows c =
-    let judged = c.judge_at-j.ensures in
-    omega (arith, (judged.1 c.if-j-eq0.true).1, c.loop-k.invariant.2, c.loop-k.invariant.0, c.requires)
+overflow_add-rows c = omega (arith, c.in_ok-rows.ensures.passed.2, c.loop-k.invariant.2, c.loop-k.invariant.0, c.requires)
 
 pub loop-k-preserved : goal.loop-k-preserved
 loop-k-preserved c =
     let k = c.loop-k.k in
     let a = c.args in
-    let judged = c.judge_at-j.ensures in
-    let zero = c.if-j-eq0.true in
+    let judged = c.in_ok-rows.ensures.passed in
     let inv = c.loop-k.invariant in
     let below = c.loop-k-test.true in (
       omega (arith, below),
-      ap₂ ◌+◌ inv.1 (judged.1 zero).0 ∙ sym (together_more a.books.now a.states.now a.bytes.now (event_in a.bytes.now) k),
-      omega (arith, inv.2, (judged.1 zero).1),
-      first_passes _ _ _ _ k below inv.3 (sym judged.0 ∙ zero),
+      ap₂ ◌+◌ inv.1 judged.1 ∙ sym (together_more a.books.now a.states.now a.bytes.now (event_in a.bytes.now) k),
+      omega (arith, inv.2, judged.2),
+      first_passes _ _ _ _ k below inv.3 judged.0,
     )
 
-pub returns-else-j-eq0 : goal.returns-else-j-eq0
-returns-else-j-eq0 c =
-    let own = c.judge_at-j.ensures.0 in
-    let refuses = c.if-j-eq0.false in (
-      own ∙ sym (first_refuses _ _ _ _ c.loop-k.k c.loop-k-test.true c.loop-k.invariant.3 (λ z. refuses (own ∙ z))),
-      λ z. absurd (refuses z),
+pub returns-in_err-rows-clause-refused : goal.returns-in_err-rows-clause-refused
+returns-in_err-rows-clause-refused c =
+    let own = c.in_err-rows.ensures.refused in
+    let p = err_from_is_err_and c.from_residual.result c.from_residual.ensures.1 in
+    rw (p.1, p.2) (
+      own.0 ∙ sym (first_refuses _ _ _ _ c.loop-k.k c.loop-k-test.true c.loop-k.invariant.3 (λ z. own.1 (own.0 ∙ z))),
+      own.1,
     )
 
-pub returns : goal.returns
-returns c =
+pub returns-clause-passed : goal.returns-clause-passed
+returns-clause-passed c =
     let k = c.loop-k.k in
     let a = c.args in
     let inv = c.loop-k.invariant in
     let e : k ≡ a.count = omega (arith, c.loop-k-test.false, inv.0) in (
-      sym (first_none _ _ _ _ k (omega (arith, e)) inv.3),
-      λ z. (
-        inv.1 ∙ ap (λ n. rows_together (event_in a.bytes.now) (parts_in a.books.now a.states.now a.bytes.now n)) e,
-        omega (arith, inv.2, e, c.requires),
-      ),
+      first_none _ _ _ _ k (omega (arith, e)) inv.3,
+      inv.1 ∙ ap (λ n. rows_together (event_in a.bytes.now) (parts_in a.books.now a.states.now a.bytes.now n)) e,
+      omega (arith, inv.2, e, c.requires),
     )

@@ -1,6 +1,6 @@
 -- `judge_all` meets its contract: after k turns the first k books do not refuse, and their rows are counted.
 use mathlib.Core.Path.{◌≡◌}
-use Prim.Native.Nat.{◌*◌, ◌-◌, ◌≤◌}
+use Prim.Native.Nat.{◌*◌, ◌≤◌}
 use Rattle.meaning.specs.Rows.{row_limit}
 use Rattle.record.specs.Records.{event_in}
 use Rattle.parts.specs.Parts.{rows_together}
@@ -11,6 +11,3 @@ use Rattle.lent_set.proofs.judge_all.Given as goal
 abbrev pub invariant-loop-k : goal.invariant-loop-k
 invariant-loop-k l =
     (l.k ≤ l.count) × (l.rows ≡ rows_together (event_in l.bytes) (parts_in l.books l.states l.bytes l.k)) × (l.rows ≤ l.k * row_limit) × First l.books l.states l.bytes l.count l.k
-
-abbrev pub decreases-loop-k : goal.decreases-loop-k
-decreases-loop-k l = l.count - l.k

@@ -1,94 +1,85 @@
 -- `lines::arguments_from` meets its contract: one turn of `arguments_from`; the room for parameters falls.
-use mathlib.Core.Path.{◌≡◌, ap}
+use mathlib.Core.Path.{refl, ap}
 use Prim.Native.Nat.{◌-◌, ◌≤◌}
 use native.Mathlib.Omega.{arith}
-use lib.ListN.{length}
+use lib.ListN.{length, take, length-take}
+use Rattle.std.proofs.lemmas.Result.{err_from_is_err_and}
 use Rattle.meaning.specs.Events.{Parameter}
-use Rattle.form.specs.Scan.{next_word}
-use Rattle.form.specs.Lines.{argument_of}
-use Rattle.parsing.proofs.Scans.{word_end_ge, word_end_le}
+use Rattle.form.specs.Scan.{fail, next_word}
+use Rattle.form.specs.Lines.{argument_fault, argument_of}
+use Rattle.text.specs.Refusals.{refusal_of}
+use Rattle.text.proofs.Steps.{step_ok, brought_ok, brought_err, brought_other}
 use Rattle.table.specs.Tables.{view_symbol, view_table}
-use Rattle.lines.proofs.Args.{step_back, next_inside, arguments_fault, arguments_end, arguments_full, argument_wrong, argument_next}
+use Rattle.lines.proofs.Args.{next_inside, arguments_end, arguments_full, argument_wrong, argument_next}
 use Rattle.lines.proofs.Args.{arguments_kept, more_kept, more_reads}
+use Rattle.lines.proofs.Known.{names_inside}
+use Rattle.lines.proofs.Gaps.{word_within}
 use Rattle.lines.proofs.+arguments_from.Goals as goal
-
-pub returns-then-n-ne0 : goal.returns-then-n-ne0
-returns-then-n-ne0 m c =
-    let step : let r = c.next_word-n.result in
-    next_word c.args.s.now c.args.p ≡ record { fault = r.fault; place = r.place } = step_back c.next_word-n.ensures in
-    arguments_kept c.requires.1 (arguments_fault c.args.s.now (view_table c.args.t).variables (view_symbol c.args.y).parameters c.args.p step (4 - c.args.y.count) c.if-n-ne0.true)
 
 pub returns-then-q-p : goal.returns-then-q-p
 returns-then-q-p m c =
-    let step : let r = c.next_word-n.result in
-    next_word c.args.s.now c.args.p ≡ record { fault = r.fault; place = r.place } = step_back c.next_word-n.ensures in
+    let a = c.args in
+    let stepped = step_ok (next_word a.s.now a.p) c.in_ok-q.ensures in
     arguments_kept c.requires.1
-    (arguments_end c.args.s.now (view_table c.args.t).variables (view_symbol c.args.y).parameters c.args.p step c.if-n-ne0.false (4 - c.args.y.count) c.if-q-p.true)
+    (arguments_end a.s.now (view_table a.t).variables (view_symbol a.y).parameters a.p stepped refl (4 - a.y.count) c.if-q-p.true)
 
 pub returns-then-count-ge-PARAMETERS : goal.returns-then-count-ge-PARAMETERS
+unfolding refusal_of
 returns-then-count-ge-PARAMETERS m c =
-    let step : let r = c.next_word-n.result in
-    next_word c.args.s.now c.args.p ≡ record { fault = r.fault; place = r.place } = step_back c.next_word-n.ensures in
-    arguments_kept c.requires.1
-    (arguments_full c.args.s.now (view_table c.args.t).variables (view_symbol c.args.y).parameters c.args.p step c.if-n-ne0.false c.if-q-p.false c.args.y.count
+    let a = c.args in
+    let stepped = step_ok (next_word a.s.now a.p) c.in_ok-q.ensures in
+    rw (arguments_full a.s.now (view_table a.t).variables (view_symbol a.y).parameters a.p stepped refl c.if-q-p.false a.y.count
     c.if-count-ge-PARAMETERS.true)
 
-pub argument_fault-f-requires : goal.argument_fault-f-requires
-argument_fault-f-requires m c =
-    let step : let r = c.next_word-n.result in
-    next_word c.args.s.now c.args.p ≡ record { fault = r.fault; place = r.place } = step_back c.next_word-n.ensures in
-    let within : let n = c.next_word-n.result in
-    let e = c.word_end-e.result in
-    (n.place ≤ e) × (e ≤ length c.args.s.now) = let s = c.args.s.now in
-    let q = c.next_word-n.result.place in
-    let i : q ≤ length s = omega (arith, next_inside s c.args.p c.requires.3, ap (λ x. x.place) step) in
-    (omega (arith, word_end_ge s q, c.word_end-e.ensures), omega (arith, word_end_le s q i, c.word_end-e.ensures)) in
-    let w = within in
-    (c.requires.0, w.0, w.1)
-
-pub returns-then-f-ne0 : goal.returns-then-f-ne0
-returns-then-f-ne0 m c =
-    let step : let r = c.next_word-n.result in
-    next_word c.args.s.now c.args.p ≡ record { fault = r.fault; place = r.place } = step_back c.next_word-n.ensures in
-    arguments_kept c.requires.1
-    (argument_wrong c.args.s.now (view_table c.args.t).variables (view_symbol c.args.y).parameters c.args.p step c.if-n-ne0.false c.if-q-p.false c.args.y.count c.if-count-ge-PARAMETERS.false c.word_end-e.ensures
-    c.argument_fault-f.ensures c.if-f-ne0.true)
-
-pub argument_of-requires : goal.argument_of-requires
-argument_of-requires m c =
-    let step : let r = c.next_word-n.result in
-    next_word c.args.s.now c.args.p ≡ record { fault = r.fault; place = r.place } = step_back c.next_word-n.ensures in
-    let within : let n = c.next_word-n.result in
-    let e = c.word_end-e.result in
-    (n.place ≤ e) × (e ≤ length c.args.s.now) = let s = c.args.s.now in
-    let q = c.next_word-n.result.place in
-    let i : q ≤ length s = omega (arith, next_inside s c.args.p c.requires.3, ap (λ x. x.place) step) in
-    (omega (arith, word_end_ge s q, c.word_end-e.ensures), omega (arith, word_end_le s q i, c.word_end-e.ensures)) in
-    let w = within in
-    (c.requires.0, w.0, w.1)
+pub argument-requires : goal.argument-requires
+argument-requires m c =
+    let a = c.args in
+    let stepped = step_ok (next_word a.s.now a.p) c.in_ok-q.ensures in
+    let word = word_within a.s.now c.in_ok-q.q _ c.word_end-e.ensures (omega (arith, next_inside a.s.now a.p c.requires.3, ap (λ y. y.place) stepped)) in
+    let few : length (take a.t.variables a.t.names) ≤ 4 = simp length-take (omega (arith, c.requires.0.few_variables)) in
+    (word.0, word.1, few, names_inside a.s.now a.t c.requires.0 a.t.variables (omega arith))
 
 pub bounds-more-count : goal.bounds-more-count
 bounds-more-count m c = c.if-count-ge-PARAMETERS.false
 
+pub returns-in_err-word : goal.returns-in_err-word
+unfolding view_table
+returns-in_err-word m c =
+    let a = c.args in
+    let q = c.in_ok-q.q in
+    let stepped = step_ok (next_word a.s.now a.p) c.in_ok-q.ensures in
+    let p = err_from_is_err_and c.from_residual-in_err-word.result c.from_residual-in_err-word.ensures.1 in
+    let x = fail (argument_fault a.s.now (view_table a.t).variables q c.word_end-e.result) q in
+    let f = brought_err x _ c.in_err-word.ensures in
+    rw (
+      p.1,
+      p.2,
+      argument_wrong a.s.now (view_table a.t).variables (view_symbol a.y).parameters a.p stepped refl c.if-q-p.false a.y.count
+          c.if-count-ge-PARAMETERS.false c.word_end-e.ensures refl f.0,
+    ) (brought_other x _ c.in_err-word.ensures _)
+
 pub arguments_from-requires : goal.arguments_from-requires
+unfolding view_table
 arguments_from-requires m c =
-    let step : let r = c.next_word-n.result in
-    next_word c.args.s.now c.args.p ≡ record { fault = r.fault; place = r.place } = step_back c.next_word-n.ensures in
-    let within : let n = c.next_word-n.result in
-    let e = c.word_end-e.result in
-    (n.place ≤ e) × (e ≤ length c.args.s.now) = let s = c.args.s.now in
-    let q = c.next_word-n.result.place in
-    let i : q ≤ length s = omega (arith, next_inside s c.args.p c.requires.3, ap (λ x. x.place) step) in
-    (omega (arith, word_end_ge s q, c.word_end-e.ensures), omega (arith, word_end_le s q i, c.word_end-e.ensures)) in
-    let argument : Parameter = argument_of c.args.s.now (view_table c.args.t).variables c.next_word-n.result.place c.word_end-e.result in
-    let m = more_kept c.requires.1 c.if-count-ge-PARAMETERS.false argument c.argument_of.ensures in
-    (omega arith, (c.requires.0, m, omega arith, within.1))
+    let a = c.args in
+    let q = c.in_ok-q.q in
+    let stepped = step_ok (next_word a.s.now a.p) c.in_ok-q.ensures in
+    let word = word_within a.s.now q _ c.word_end-e.ensures (omega (arith, next_inside a.s.now a.p c.requires.3, ap (λ y. y.place) stepped)) in
+    let argument : Parameter = argument_of a.s.now (view_table a.t).variables q c.word_end-e.result in
+    let x = fail (argument_fault a.s.now (view_table a.t).variables q c.word_end-e.result) q in
+    let n = brought_ok x _ c.in_ok-word.ensures in
+    let m = more_kept c.requires.1 c.if-count-ge-PARAMETERS.false argument n.1 in
+    (omega arith, (c.requires.0, m, omega arith, word.1))
 
 pub returns : goal.returns
+unfolding view_table
 returns m c =
-    let step : let r = c.next_word-n.result in
-    next_word c.args.s.now c.args.p ≡ record { fault = r.fault; place = r.place } = step_back c.next_word-n.ensures in
-    let argument : Parameter = argument_of c.args.s.now (view_table c.args.t).variables c.next_word-n.result.place c.word_end-e.result in
-    more_reads c.requires.1 c.if-count-ge-PARAMETERS.false argument c.argument_of.ensures c.args.s.now (view_table c.args.t).variables c.word_end-e.result c.arguments_from.ensures
-    (argument_next c.args.s.now (view_table c.args.t).variables (view_symbol c.args.y).parameters c.args.p step c.if-n-ne0.false c.if-q-p.false c.args.y.count c.if-count-ge-PARAMETERS.false c.word_end-e.ensures
-    c.argument_fault-f.ensures c.if-f-ne0.false)
+    let a = c.args in
+    let q = c.in_ok-q.q in
+    let stepped = step_ok (next_word a.s.now a.p) c.in_ok-q.ensures in
+    let argument : Parameter = argument_of a.s.now (view_table a.t).variables q c.word_end-e.result in
+    let x = fail (argument_fault a.s.now (view_table a.t).variables q c.word_end-e.result) q in
+    let n = brought_ok x _ c.in_ok-word.ensures in
+    more_reads c.requires.1 c.if-count-ge-PARAMETERS.false argument n.1 a.s.now (view_table a.t).variables c.word_end-e.result c.arguments_from.ensures
+    (argument_next a.s.now (view_table a.t).variables (view_symbol a.y).parameters a.p stepped refl c.if-q-p.false a.y.count c.if-count-ge-PARAMETERS.false
+    c.word_end-e.ensures refl n.0)

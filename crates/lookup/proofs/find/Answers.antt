@@ -1,73 +1,51 @@
--- `lookup::find` meets its contract: the index so far and the index among the names ahead.
+-- `lookup::find` meets its contract: the names passed and the index among those ahead.
 use mathlib.Core.Path.{◌≡◌, sym, ap, ◌∙◌}
-use mathlib.Core.Bool.{true}
-use mathlib.Core.List.{◌∷◌}
-use Prim.Native.Nat.{◌+◌, ◌≤◌}
+use mathlib.Core.Bool.{Bool, cond}
+use mathlib.Core.List.{List, ◌∷◌, map}
+use Prim.Native.Nat.{ℕ, suc, ◌+◌, ◌<◌}
+use native.Mathlib.Numerals.{add-one}
 use native.Mathlib.Omega.{arith}
-use borrow.Author.Tests.{leb-true}
-use lib.ListN.{length, get_or}
+use borrow.Author.Tests.{lt-ltb}
+use lib.Dec.{eqb}
+use lib.ListN.{length, get_or, drop, length-map}
+use lib.Pointwise.{pointwise}
+use lib.Seq.{drop-cons}
 use Rattle.laws.specs.Lists.{all}
 use Rattle.laws.proofs.Lists.{and_true_split}
+use Rattle.form.specs.Text.{Bytes, Span}
 use Rattle.form.specs.Scan.{part}
-use Rattle.form.specs.Lines.{index_of}
+use Rattle.form.specs.Lines.{bytes_at, index_of}
+use Rattle.table.specs.declared.Name.{Name}
 use Rattle.table.specs.Tables.{inside, span_of, no_name}
-use Rattle.table.proofs.Spans.{ahead, ahead_none, ahead_cons, index_by}
+use Rattle.table.proofs.Spans.{index_by}
+use Rattle.text.proofs.Parts.{same_bytes}
 use Rattle.lookup.proofs.find.Goals as goal
 
+module _ (names : List Name) (i : ℕ) (h : i < length names) where
+  abbrev here : Span
+  here = span_of (get_or names i no_name)
+
+  first : map span_of (drop i names) ≡ here ∷ map span_of (drop (i + 1) names)
+  first = rw add-one (ap (map span_of) (drop-cons names i no_name h))
+
+  -- the index of the word w among the names from i on, by the comparison of the first with it
+  index : (s w : Bytes) {b : Bool} → pointwise eqb (bytes_at s here) w ≡ b
+      → index_of s (map span_of (drop i names)) w ≡ cond b 0 (suc (index_of s (map span_of (drop (i + 1) names)) w))
+  index s w e = index_by s w first (sym (same_bytes (bytes_at s here) w) ∙ e)
+
 pub loop-i-init : goal.loop-i-init
-loop-i-init c = (omega arith, c.requires.0, c.requires.4, omega arith)
+loop-i-init c = record { within = c.requires.2; ahead = omega arith }
 
-pub overflow_add-z : goal.overflow_add-z
-overflow_add-z c =
-    let first : let a = c.args in let i = c.loop-i.i in
-    ahead span_of a.names i a.to ≡ span_of (get_or a.names i no_name) ∷ ahead span_of a.names (i + 1) a.to = let a = c.args in
-    ahead_cons span_of a.names c.loop-i.i a.to no_name c.loop-i-test.true (omega arith) in
-    let within : let a = c.args in let i = c.loop-i.i in
-    let n = get_or a.names i no_name in
-    (n.start + n.size ≤ length a.s.now) × (all (inside (length a.s.now)) (ahead span_of a.names (i + 1) a.to) ≡ true) = let a = c.args in
-    let h = and_true_split _ _ (ap (all (inside (length a.s.now))) (sym first) ∙ c.loop-i.invariant.2) in
-    (leb-true _ _ h.0, h.1) in
-    omega (arith, within.0)
-
-pub same-requires : goal.same-requires
-same-requires c =
-    let first : let a = c.args in let i = c.loop-i.i in
-    ahead span_of a.names i a.to ≡ span_of (get_or a.names i no_name) ∷ ahead span_of a.names (i + 1) a.to = let a = c.args in
-    ahead_cons span_of a.names c.loop-i.i a.to no_name c.loop-i-test.true (omega arith) in
-    let within : let a = c.args in let i = c.loop-i.i in
-    let n = get_or a.names i no_name in
-    (n.start + n.size ≤ length a.s.now) × (all (inside (length a.s.now)) (ahead span_of a.names (i + 1) a.to) ≡ true) = let a = c.args in
-    let h = and_true_split _ _ (ap (all (inside (length a.s.now))) (sym first) ∙ c.loop-i.invariant.2) in
-    (leb-true _ _ h.0, h.1) in
-    let q = c.requires in
-    (omega arith, within.0, q.2, q.3)
-
-pub returns-then-same : goal.returns-then-same
-returns-then-same c =
-    let first : let a = c.args in let i = c.loop-i.i in
-    ahead span_of a.names i a.to ≡ span_of (get_or a.names i no_name) ∷ ahead span_of a.names (i + 1) a.to = let a = c.args in
-    ahead_cons span_of a.names c.loop-i.i a.to no_name c.loop-i-test.true (omega arith) in
+pub returns-then-eq : goal.returns-then-eq
+returns-then-eq c =
     let a = c.args in
-    let h = index_by a.s.now (part a.s.now a.p a.e) first (sym c.same.ensures ∙ c.if-same.true) in
-    omega (arith, c.loop-i.invariant.3)
+    let h = index a.names.now c.loop-i.i c.loop-i-test.true a.s.now (part a.s.now a.p a.e) (sym c.eq.ensures ∙ c.if-eq.true) in
+    let k : index_of a.s.now (map span_of a.names.now) (part a.s.now a.p a.e) ≡ c.loop-i.i = omega (arith, c.loop-i.invariant.ahead, h) in
+    rw (k, length-map, lt-ltb _ _ c.loop-i-test.true)
 
 pub loop-i-preserved : goal.loop-i-preserved
 loop-i-preserved c =
-    let first : let a = c.args in let i = c.loop-i.i in
-    ahead span_of a.names i a.to ≡ span_of (get_or a.names i no_name) ∷ ahead span_of a.names (i + 1) a.to = let a = c.args in
-    ahead_cons span_of a.names c.loop-i.i a.to no_name c.loop-i-test.true (omega arith) in
-    let within : let a = c.args in let i = c.loop-i.i in
-    let n = get_or a.names i no_name in
-    (n.start + n.size ≤ length a.s.now) × (all (inside (length a.s.now)) (ahead span_of a.names (i + 1) a.to) ≡ true) = let a = c.args in
-    let h = and_true_split _ _ (ap (all (inside (length a.s.now))) (sym first) ∙ c.loop-i.invariant.2) in
-    (leb-true _ _ h.0, h.1) in
     let a = c.args in
-    let h = index_by a.s.now (part a.s.now a.p a.e) first (sym c.same.ensures ∙ c.if-same.false) in
-    (omega arith, omega arith, within.1, omega (arith, c.loop-i.invariant.3))
-
-pub returns : goal.returns
-returns c =
-    let l = c.loop-i in
-    let a = c.args in
-    let none = ahead_none span_of a.names l.i a.to c.loop-i-test.false in
-    omega (arith, l.invariant.3, ap (λ xs. index_of a.s.now xs (part a.s.now a.p a.e)) none)
+    let h = index a.names.now c.loop-i.i c.loop-i-test.true a.s.now (part a.s.now a.p a.e) (sym c.eq.ensures ∙ c.if-eq.false) in
+    let f = ap (all (inside (length a.s.now))) (sym (first a.names.now c.loop-i.i c.loop-i-test.true)) in
+    record { within = (and_true_split _ _ (f ∙ c.loop-i.invariant.within)).1; ahead = omega (arith, c.loop-i.invariant.ahead, h) }

@@ -1,13 +1,14 @@
 -- `matcher::take_event` meets its contract: the masks and the constraints are those of the book, so that what `collect` and `advance` say of words
 -- four wide is what the event does with the book and with what is held.
-use mathlib.Core.Path.{◌≡◌}
+use mathlib.Core.Path.{◌≡◌, sym, ap}
+use Rattle.std.proofs.Common.{unwrap_or}
 use mathlib.Core.List.{map}
 use lib.ListN.{take}
 use Rattle.meaning.specs.Book.{followers}
 use Rattle.book.specs.Books.{view_book}
 use Rattle.book.specs.Counts.{view_from}
 use Rattle.sound.proofs.Soundness.{book_symbols}
-use Rattle.matcher.proofs.Words.{constraints_known, counts_known, parameters_sound, masks_known, words_sound, effects_known}
+use Rattle.matcher.proofs.Words.{constraints_known, counts_known, parameters_sound, masks_known, words_sound, rows_some, effects_known}
 use Rattle.matcher.proofs.take_event.Goals as goal
 
 pub constraints-cs-requires : goal.constraints-cs-requires
@@ -31,8 +32,8 @@ collect-found-requires c =
     let p = c.requires in
     (p.3, counts_known _ p.0, p.1, followed, c.constraints-cs.ensures.1)
 
-pub advance-k-requires : goal.advance-k-requires
-advance-k-requires c =
+pub advance-after-requires : goal.advance-after-requires
+advance-after-requires c =
     let followed : let a = c.args in
     take a.n c.follow_masks.new.masks ≡ map (followers (view_book a.book)) (take a.n a.at.now) = let a = c.args in
     let p = c.requires in
@@ -47,12 +48,20 @@ advance-k-requires c =
       c.constraints-cs.ensures.1,
     )
 
+pub unwrap-requires : goal.unwrap-requires
+unfolding view_book
+unwrap-requires c =
+    let a = c.args in
+    let p = c.requires in
+    let agree = constraints_known a.book _ _ c.constraints-cs.ensures.0 in
+    rows_some (view_from a.begins a.book) p.1 a.n a.at.now a.held.now p.4 _ _ _ (c.collect-found.ensures.found _ agree).0
+
 pub returns : goal.returns
 unfolding view_book
 returns c h =
     let a = c.args in
     let p = c.requires in
     let agree = constraints_known a.book _ _ c.constraints-cs.ensures.0 in
-    let found = c.collect-found.ensures _ agree in
-    effects_known (view_from a.begins a.book) p.1 a.n a.at.now a.held.now h _ _ _ _ _ found.0 found.1
-    (c.advance-k.ensures _ agree)
+    let found = c.collect-found.ensures.found _ agree in
+    effects_known (view_from a.begins a.book) p.1 a.n a.at.now a.held.now h _ _ c.collect-found.result.rows _ _ _ (sym (ap (λ o. unwrap_or o 0) c.unwrap.ensures)) c.collect-found.ensures.few
+    found.0 found.1 c.advance-after.ensures.few (c.advance-after.ensures.held _ agree)

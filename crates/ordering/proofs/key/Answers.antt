@@ -6,7 +6,7 @@ use native.Mathlib.Omega.{arith}
 use Rattle.ordering.proofs.key.Goals as goal
 
 pub returns-then-a : goal.returns-then-a
-returns-then-a c = omega (arith, ap value_key (view_bound c.args.a c.if-a.true))
+returns-then-a c = omega (arith, ap value_key (view_bound c.args.a.now c.if-a.true))
 
 pub returns-else-a : goal.returns-else-a
-returns-else-a c = omega (arith, ap value_key (view_free c.args.a c.if-a.false))
+returns-else-a c = omega (arith, ap value_key (view_free c.args.a.now c.if-a.false))

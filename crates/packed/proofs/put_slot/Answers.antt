@@ -9,9 +9,9 @@ pub returns-then-s : goal.returns-then-s
 returns-then-s c =
     write_bound c.args.words.now c.args.j c.args.s c.requires.0 c.requires.1 c.if-s.true
 
-pub returns : goal.returns
-returns c =
-    let z = c.size-n in
+pub returns-else-s : goal.returns-else-s
+returns-else-s c =
+    let z = c.size in
     let l : length c.args.s.excluded ≡ 6 = search rules in
-    let unbound = c.if-s.false in
-    write_free c.args.words.now c.args.j c.args.s z.result c.requires.0 c.requires.1 unbound l z.ensures.0 z.ensures.1
+    write_free c.args.words.now c.args.j c.args.s z.result c.copy_from_slice.new.self c.requires.0 c.requires.1 c.if-s.false l z.ensures.0 z.ensures.1
+    c.copy_from_slice.ensures.after

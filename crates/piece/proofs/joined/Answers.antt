@@ -1,15 +1,7 @@
--- `piece::joined` meets its contract. The loop's invariant: the first i elements are joined.
-use native.Mathlib.Omega.{arith}
-use Rattle.laws.specs.Bits.{join}
-use Rattle.piece.proofs.Fills.{filled_none, filled_more, filled_all}
+-- `piece::joined` meets its contract: the closure gives the set of b at the index.
+use lib.ListN.{get_or}
+use Rattle.std.proofs.Common.{rules}
 use Rattle.piece.proofs.joined.Goals as goal
 
-pub loop-i-init : goal.loop-i-init
-loop-i-init c = filled_none _ 31 (omega arith)
-
-pub loop-i-preserved : goal.loop-i-preserved
-unfolding join
-loop-i-preserved c = filled_more _ 31 c.loop-i.i c.loop-i.r c.loop-i-test.true c.loop-i.invariant
-
 pub returns : goal.returns
-returns c = filled_all _ 31 c.loop-i.i c.loop-i.r c.loop-i-test.false c.loop-i.invariant
+returns c = c.with_more.ensures (λ i. get_or c.args.b i 0) (λ i r m p. search rules)

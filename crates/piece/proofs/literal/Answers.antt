@@ -6,7 +6,7 @@ use lib.ListN.{replicate, set}
 use Rattle.pattern.specs.Regex.{lit}
 use Rattle.pattern.specs.Positions.{occurrence_limit}
 use Rattle.piece.specs.declared.Piece.{Piece}
-use Rattle.piece.specs.Pieces.{piece_of}
+use Rattle.piece.specs.Pieces.{piece_of, no_piece}
 use Rattle.piece.proofs.Laws.{lit_mask, lit_symbols}
 use Rattle.piece.proofs.literal.Goals as goal
 
@@ -29,5 +29,5 @@ unfolding made piece_of
 made_whole vars k a bound low high e = rw (lit_mask k a high, e, lit_symbols k a occurrence_limit low high)
 
 pub returns : goal.returns
-unfolding made
-returns c vars e = made_whole vars c.args.k c.args.a c.args.bound c.requires.0 c.requires.1 e
+unfolding made no_piece
+returns c vars e = rw c.nothing.ensures (made_whole vars c.args.k c.args.a c.args.bound c.requires.0 c.requires.1 e)

@@ -10,7 +10,7 @@ use Rattle.packed.specs.Sets.{disjuncts_in}
 use Rattle.packed.proofs.Sets.{in_length}
 use Rattle.skip.proofs.Picks.{ahead, ahead_picked, ahead_passed, put_behind}
 use Rattle.skip.proofs.label.Goals as goal
-use Rattle.skip.proofs.label.Goals.{then-parameters-i, else-parameters-i}
+use Rattle.skip.proofs.label.Goals.{then-at-i, else-at-i}
 
 pub loop-i-preserved : goal.loop-i-preserved
 loop-i-preserved c =
@@ -23,18 +23,16 @@ loop-i-preserved c =
     let hl : a.n ≤ length ds = omega (arith, in_length a.held.now) in
     let hd : l.m < length done = omega (arith, in_length l.out) in
     let test = c.loop-i-test.true in
-    elim c.if-parameters-i.branch [
-      | then-parameters-i w ↦ (
+    elim c.if-at-i.branch [
+      | then-at-i w ↦ (
         omega (arith, w.m-is),
-        omega arith,
         ap₂ (λ o k. take k (disjuncts_in o) ++ rest) w.out-is w.m-is ∙ ap (λ o. take (l.m + 1) o ++ rest) w.put.ensures
-            ∙ put_behind done l.m (view_disjunct w.get-d.result) rest hd ∙ ap (λ D. take l.m done ++ D ∷ rest) w.get-d.ensures
-            ∙ ap (λ k. take l.m done ++ k) (sym (ahead_picked a.p a.at.now ds a.n l.i test hp hl w.if-parameters-i.true)) ∙ l.invariant.2,
+            ∙ put_behind done l.m (view_disjunct w.get.result) rest hd ∙ ap (λ D. take l.m done ++ D ∷ rest) w.get.ensures
+            ∙ ap (λ k. take l.m done ++ k) (sym (ahead_picked a.p a.at.now ds a.n l.i test hp hl w.if-at-i.true)) ∙ l.invariant.1,
       )
-      | else-parameters-i w ↦ (
+      | else-at-i w ↦ (
         omega (arith, w.m-is),
-        omega arith,
         ap₂ (λ o k. take k (disjuncts_in o) ++ rest) w.out-is w.m-is
-            ∙ ap (λ k. take l.m done ++ k) (sym (ahead_passed a.p a.at.now ds a.n l.i test hp hl w.if-parameters-i.false)) ∙ l.invariant.2,
+            ∙ ap (λ k. take l.m done ++ k) (sym (ahead_passed a.p a.at.now ds a.n l.i test hp hl w.if-at-i.false)) ∙ l.invariant.1,
       )
     ]

@@ -1,7 +1,7 @@
 -- `skip::label` meets its contract: what is put so far, before what is picked ahead.
 use mathlib.Core.Path.{◌≡◌}
 use mathlib.Core.List.{◌++◌}
-use Prim.Native.Nat.{◌-◌, ◌≤◌}
+use Prim.Native.Nat.{◌≤◌}
 use lib.Dec.{eqb}
 use lib.ListN.{take}
 use Rattle.bounded.specs.Bounded.{pick}
@@ -12,7 +12,4 @@ use Rattle.skip.proofs.label.Given as goal
 abbrev pub invariant-loop-i : goal.invariant-loop-i
 invariant-loop-i l =
     let ds = disjuncts_in l.held in
-    (l.m ≤ l.i) × (l.i ≤ l.n) × (take l.m (disjuncts_in l.out) ++ ahead l.p l.at ds l.n l.i ≡ pick (eqb l.p) (take l.n l.at) (take l.n ds))
-
-abbrev pub decreases-loop-i : goal.decreases-loop-i
-decreases-loop-i l = l.n - l.i
+    (l.m ≤ l.i) × (take l.m (disjuncts_in l.out) ++ ahead l.p l.at ds l.n l.i ≡ pick (eqb l.p) (take l.n l.at) (take l.n ds))

@@ -3,6 +3,8 @@ use mathlib.Core.Path.{◌≡◌, refl, sym, ap, ◌∙◌}
 use mathlib.Core.List.{List, [], ◌∷◌}
 use Prim.Native.Nat.{ℕ, ◌+◌, ◌≤◌, ◌<◌}
 use native.Mathlib.Omega.{arith}
+use borrow.Author.Rules.{rules}
+use Rattle.std.proofs.Common.{None}
 use lib.ListN.{length, take, drop, get_or}
 use Rattle.laws.specs.Lists.{gather}
 use Rattle.laws.specs.Sets.{Grown, grown}
@@ -14,8 +16,8 @@ use Rattle.bounded.specs.Bounded.{grow_few}
 use Rattle.bounded.proofs.Skips.{few_append, skipped_grow}
 use Rattle.demand.specs.Constraints.{view_constraint}
 use Rattle.disjunct.specs.Disjuncts.{view_disjunct}
-use Rattle.packed.specs.Sets.{disjuncts_in}
-use Rattle.packed.proofs.Sets.{in_length, few_in, in_grown, in_full}
+use Rattle.packed.specs.Sets.{disjuncts_in, grown_in}
+use Rattle.packed.proofs.Sets.{in_length, few_in}
 use Rattle.skip.proofs.Growth.{step_grown, step_ascending, step_full}
 use Rattle.skip.proofs.skip_by.Goals as goal
 
@@ -33,51 +35,47 @@ ahead C D l n i g h k e =
 pub loop-i-init : goal.loop-i-init
 loop-i-init c =
     let a = c.args in
-    (omega arith, omega arith, refl, skipped_grow (view_constraint a.c) (take a.n (disjuncts_in a.from.now)))
+    (omega arith, refl, skipped_grow (view_constraint a.c) (take a.n (disjuncts_in a.from.now)))
 
-pub skip_one-m-requires : goal.skip_one-m-requires
-skip_one-m-requires c =
+pub skip_one-requires : goal.skip_one-requires
+skip_one-requires c =
     let l = c.loop-i in
-    (l.invariant.1, c.requires.1, ap few_exclusions c.get-d.ensures ∙ few_in c.args.from.now l.i (omega arith), l.invariant.2)
+    (l.invariant.0, c.requires.1, ap few_exclusions c.get.ensures ∙ few_in c.args.from.now l.i (omega arith), l.invariant.1)
 
-pub returns-then-m-gt-CAPACITY : goal.returns-then-m-gt-CAPACITY
-returns-then-m-gt-CAPACITY c =
+pub returns-in_err-m-clause-set : goal.returns-in_err-m-clause-set
+returns-in_err-m-clause-set c =
     let a = c.args in
     let l = c.loop-i in
     let C = view_constraint a.c in
-    let D = view_disjunct c.get-d.result in
+    let D = view_disjunct c.get.result in
     let ds = disjuncts_in a.from.now in
     let held = take l.m (disjuncts_in l.out) in
-    let w = c.skip_one-m.new.out in
     let few : a.n ≤ length ds = omega (arith, in_length a.from.now) in
-    in_full 129 w (omega arith)
-    ∙ sym (step_full w c.skip_one-m.result (skip_one C D) held c.skip_one-m.ensures (later C ds a.n (l.i + 1)) c.if-m-gt-CAPACITY.true)
-    ∙ ahead C D ds a.n l.i (grown held) c.loop-i-test.true few c.get-d.ensures ∙ l.invariant.3
+    let none : c.from_residual.result ≡ None = search rules in
+    ap (λ r. grown_in r c.skip_one.new.out) none
+    ∙ sym (step_full (skip_one C D) held (later C ds a.n (l.i + 1)) c.in_err-m.ensures.set)
+    ∙ ahead C D ds a.n l.i (grown held) c.loop-i-test.true few c.get.ensures ∙ l.invariant.2
 
 pub loop-i-preserved : goal.loop-i-preserved
 loop-i-preserved c =
     let a = c.args in
     let l = c.loop-i in
     let C = view_constraint a.c in
-    let D = view_disjunct c.get-d.result in
+    let D = view_disjunct c.get.result in
     let ds = disjuncts_in a.from.now in
     let held = take l.m (disjuncts_in l.out) in
-    let w = c.skip_one-m.new.out in
-    let r = c.skip_one-m.result in
-    let e = c.skip_one-m.ensures in
-    let k = c.if-m-gt-CAPACITY.false in
+    let k = take c.in_ok-m.m (disjuncts_in c.skip_one.new.out) in
+    let e = c.in_ok-m.ensures.set in
     let few : a.n ≤ length ds = omega (arith, in_length a.from.now) in (
-      omega arith,
-      k,
-      step_ascending w r (skip_one C D) held e k l.invariant.2,
-      sym (step_grown w r (skip_one C D) held e (later C ds a.n (l.i + 1)) k)
-          ∙ ahead C D ds a.n l.i (grown held) c.loop-i-test.true few c.get-d.ensures ∙ l.invariant.3,
+      c.in_ok-m.ensures.few,
+      step_ascending (skip_one C D) held k e l.invariant.1,
+      sym (step_grown (skip_one C D) held k (later C ds a.n (l.i + 1)) e)
+          ∙ ahead C D ds a.n l.i (grown held) c.loop-i-test.true few c.get.ensures ∙ l.invariant.2,
     )
 
-pub returns : goal.returns
-returns c =
+pub returns-clause-set : goal.returns-clause-set
+returns-clause-set c =
     let l = c.loop-i in
     let a = c.args in
-    in_grown l.m l.out l.invariant.1
-    ∙ sym (ap (λ k. grow_few (gather (skip_one (view_constraint a.c)) k) (grown (take l.m (disjuncts_in l.out))))
-    (taken_none (disjuncts_in a.from.now) a.n l.i c.loop-i-test.false)) ∙ l.invariant.3
+    sym (ap (λ k. grow_few (gather (skip_one (view_constraint a.c)) k) (grown (take l.m (disjuncts_in l.out))))
+    (taken_none (disjuncts_in a.from.now) a.n l.i c.loop-i-test.false)) ∙ l.invariant.2

@@ -1,7 +1,7 @@
 -- `skip::skip_by` meets its contract: what has grown so far, and what the disjuncts ahead give into it.
 use mathlib.Core.Path.{◌≡◌}
 use mathlib.Core.Bool.{true}
-use Prim.Native.Nat.{◌-◌, ◌≤◌}
+use Prim.Native.Nat.{◌≤◌}
 use lib.ListN.{take, drop}
 use Rattle.laws.specs.Lists.{gather}
 use Rattle.laws.specs.Order.{ascending}
@@ -16,8 +16,5 @@ abbrev pub invariant-loop-i : goal.invariant-loop-i
 invariant-loop-i l =
     let ds = take l.n (disjuncts_in l.from) in
     let g = grown (take l.m (disjuncts_in l.out)) in
-    (l.i ≤ l.n) × (l.m ≤ 128) × (ascending compare_disjuncts (take l.m (disjuncts_in l.out)) ≡ true)
+    (l.m ≤ 128) × (ascending compare_disjuncts (take l.m (disjuncts_in l.out)) ≡ true)
     × (grow_few (gather (skip_one (view_constraint l.c)) (drop l.i ds)) g ≡ skipped (view_constraint l.c) ds)
-
-abbrev pub decreases-loop-i : goal.decreases-loop-i
-decreases-loop-i l = l.n - l.i

@@ -2,7 +2,7 @@
 use mathlib.Core.Path.{◌≡◌}
 use mathlib.Core.Bool.{true}
 use mathlib.Core.List.{map}
-use Prim.Native.Nat.{◌-◌, ◌≤◌}
+use Prim.Native.Nat.{◌≤◌}
 use lib.ListN.{take, drop}
 use Rattle.laws.specs.Order.{ascending}
 use Rattle.meaning.specs.Labels.{compare_disjuncts}
@@ -15,8 +15,5 @@ abbrev pub invariant-loop-symbol : goal.invariant-loop-symbol
 invariant-loop-symbol l =
     let ds = take l.m (disjuncts_in l.words) in
     let all = map view_constraint (take l.count l.cs) in
-    (l.symbol ≤ l.count) × (l.m ≤ 128) × (ascending compare_disjuncts ds ≡ true)
+    (l.m ≤ 128) × (ascending compare_disjuncts ds ≡ true)
     × (skipped_through (drop l.symbol all) ds ≡ skipped_through all (take l.n (disjuncts_in l.initial.words)))
-
-abbrev pub decreases-loop-symbol : goal.decreases-loop-symbol
-decreases-loop-symbol l = l.count - l.symbol

@@ -7,6 +7,3 @@ use Rattle.sound_state.proofs.ascends.Given as goal
 
 abbrev pub invariant-loop-i : goal.invariant-loop-i
 invariant-loop-i l = (1 ≤ l.i) × (length l.xs ≡ 6) × Rises compare (take l.n l.xs) l.i
-
-abbrev pub decreases-loop-i : goal.decreases-loop-i
-decreases-loop-i l = l.n - l.i

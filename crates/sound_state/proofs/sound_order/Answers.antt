@@ -24,10 +24,10 @@ loop-i-preserved c =
     let e = held_less a.variables a.s g h l.i x (record { vars = [] }) l.invariant.0 c.loop-i-test.true c.before-in-loop-i.ensures in
     let n = held_length a.variables a.s g h in
     let w = held_first a.variables a.s in
-    (omega arith, l.invariant.1, l.invariant.2, rises_more compare_held w l.i x l.invariant.0 (omega arith) l.invariant.3 e c.if-before.true)
+    (omega arith, l.invariant.1, l.invariant.2, rises_more compare_held w l.i x l.invariant.0 (omega arith) l.invariant.3 e c.if-not-before.false)
 
-pub returns-else-before : goal.returns-else-before
-returns-else-before c =
+pub returns-then-not-before : goal.returns-then-not-before
+returns-then-not-before c =
     let l = c.loop-i in
     let a = c.args in
     let g : a.s.count ≤ length a.s.positions = omega arith in
@@ -36,7 +36,7 @@ returns-else-before c =
     let e = held_less a.variables a.s g h l.i x (record { vars = [] }) l.invariant.0 c.loop-i-test.true c.before-in-loop-i.ensures in
     let n = held_length a.variables a.s g h in
     let w = held_first a.variables a.s in
-    rises_stop compare_held w l.i x l.invariant.0 (omega arith) l.invariant.3 e c.if-before.false
+    rises_stop compare_held w l.i x l.invariant.0 (omega arith) l.invariant.3 e c.if-not-before.true
 
 pub returns : goal.returns
 returns c =

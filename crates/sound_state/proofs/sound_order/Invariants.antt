@@ -10,6 +10,3 @@ use Rattle.sound_state.proofs.sound_order.Given as goal
 abbrev pub invariant-loop-i : goal.invariant-loop-i
 invariant-loop-i l =
     (1 ≤ l.i) × (length l.s.positions ≡ 128) × (length l.s.pool ≡ 128) × Rises compare_held (held_first l.variables l.s) l.i
-
-abbrev pub decreases-loop-i : goal.decreases-loop-i
-decreases-loop-i l = l.n - l.i

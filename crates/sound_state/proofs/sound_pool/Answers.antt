@@ -1,60 +1,31 @@
 -- `sound_state::sound_pool` meets its contract: the positions and disjuncts ahead tell what all tell.
-use mathlib.Core.Path.{refl, sym, ◌∙◌}
-use mathlib.Core.Bool.{Bool, ◌&&◌}
-use mathlib.Core.List.{[]}
-use Prim.Native.Nat.{ℕ, ◌≤◌}
-use native.Mathlib.Omega.{arith}
-use lib.Dec.{leb}
-use lib.ListN.{length}
+use Rattle.std.proofs.Common.{◌≡◌, ◌&&◌, ◌∙◌, refl, ℕ, Bool, leb, take, rules, tests}
+use Rattle.std.proofs.lemmas.Iterator.{YieldsList-from_slice}
+use Rattle.std.proofs.lemmas.Iterator.Search.{all_from_yields_List}
+use Rattle.laws.specs.Lists.{all}
 use Rattle.sound.specs.Tests.{disjunct_sound, pool_sound}
-use Rattle.sound.proofs.Loops.{pairs_more, pairs_first, pairs_second, pairs_end}
-use Rattle.sound.proofs.Sizes.{state_sized}
+use Rattle.sound.proofs.Loops.{all_told, both_second, both_first}
 use Rattle.sound_state.proofs.sound_pool.Goals as goal
 
 -- one position
 abbrev in_range : ℕ → ℕ → Bool
 in_range positions p = leb 1 p && leb p positions
 
-pub loop-i-init : goal.loop-i-init
+pub returns-then-all : goal.returns-then-all
 unfolding pool_sound
-loop-i-init c = let z = state_sized c.args.s c.well_formed.0 in (omega arith, z.positions, z.pool, refl)
-
-pub loop-i-preserved : goal.loop-i-preserved
-loop-i-preserved c =
-    let l = c.loop-i in
+returns-then-all c =
     let a = c.args in
-    let s = a.s in
-    let g : s.count ≤ length s.positions = omega arith in
-    let h : s.count ≤ length s.pool = omega arith in
-    let more =
-    pairs_more (in_range a.positions) (disjunct_sound a.variables) s.positions s.pool s.count l.i 0 (record { vars = [] })
-    c.loop-i-test.true g h l.invariant.3 (sym c.within.ensures ∙ c.if-within.true)
-    (sym c.sound_disjunct.ensures ∙ c.if-sound_disjunct.true) in
-    (omega arith, l.invariant.1, l.invariant.2, more)
+    let places = take a.s.count a.s.positions in
+    let held = take a.s.count a.s.pool in
+    let first : c.all.result ≡ all (in_range a.positions) places = all_from_yields_List (in_range a.positions) _ _ c.all.result c.all.ensures.ran (YieldsList-from_slice places cc) (λ x b q k. search (rules, tests)) ∙ all_told (in_range a.positions) places in
+    let second : c.all-then-all.result ≡ all (disjunct_sound a.variables) held = all_from_yields_List (disjunct_sound a.variables) _ _ c.all-then-all.result c.all-then-all.ensures.ran (YieldsList-from_slice held cc) (λ x b q k. search (rules, tests)) ∙ all_told (disjunct_sound a.variables) held in
+    both_second first c.if-all.true refl second
 
-pub returns-else-sound_disjunct : goal.returns-else-sound_disjunct
-returns-else-sound_disjunct c =
-    let l = c.loop-i in
+pub returns-else-all : goal.returns-else-all
+unfolding pool_sound
+returns-else-all c =
     let a = c.args in
-    let s = a.s in
-    let g : s.count ≤ length s.positions = omega arith in
-    let h : s.count ≤ length s.pool = omega arith in
-    pairs_second (in_range a.positions) (disjunct_sound a.variables) s.positions s.pool s.count l.i 0 (record { vars = [] })
-    c.loop-i-test.true g h l.invariant.3 (sym c.sound_disjunct.ensures ∙ c.if-sound_disjunct.false)
-
-pub returns-else-within : goal.returns-else-within
-returns-else-within c =
-    let l = c.loop-i in
-    let a = c.args in
-    let s = a.s in
-    let g : s.count ≤ length s.positions = omega arith in
-    let h : s.count ≤ length s.pool = omega arith in
-    pairs_first (in_range a.positions) (disjunct_sound a.variables) s.positions s.pool s.count l.i 0 (record { vars = [] })
-    c.loop-i-test.true g h l.invariant.3 (sym c.within.ensures ∙ c.if-within.false)
-
-pub returns : goal.returns
-returns c =
-    let l = c.loop-i in
-    let a = c.args in
-    let s = a.s in
-    pairs_end (in_range a.positions) (disjunct_sound a.variables) s.positions s.pool s.count l.i c.loop-i-test.false l.invariant.3
+    let places = take a.s.count a.s.positions in
+    let held = take a.s.count a.s.pool in
+    let first : c.all.result ≡ all (in_range a.positions) places = all_from_yields_List (in_range a.positions) _ _ c.all.result c.all.ensures.ran (YieldsList-from_slice places cc) (λ x b q k. search (rules, tests)) ∙ all_told (in_range a.positions) places in
+    both_first (all (disjunct_sound a.variables) held) first c.if-all.false refl

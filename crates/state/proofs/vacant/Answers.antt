@@ -3,4 +3,4 @@ use Rattle.state.proofs.Pools.{none_held}
 use Rattle.state.proofs.vacant.Goals as goal
 
 pub returns : goal.returns
-returns c = none_held c.args.number c.free-d.result c.free-d.ensures
+returns c = none_held c.args.number c.free.result c.free.ensures

@@ -12,6 +12,3 @@ use Rattle.state_block.proofs.disjunct_in.Given as goal
 
 abbrev pub invariant-loop-i : goal.invariant-loop-i
 invariant-loop-i l = (l.i ≤ 4) × (l.d.vars ≡ pad 4 (slot_of (free [])) (take l.i (map slot_in (groups 7 4 l.words))))
-
-abbrev pub decreases-loop-i : goal.decreases-loop-i
-decreases-loop-i l = 4 - l.i

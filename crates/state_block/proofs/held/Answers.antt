@@ -4,6 +4,6 @@ use Rattle.state_block.proofs.held.Goals as goal
 
 pub returns : goal.returns
 returns c =
-    let n = c.least-n in
-    held_read c.args.words.now n.result c.positions_in-positions.result c.pool_in-pool.result n.ensures
-    c.positions_in-positions.ensures c.pool_in-pool.ensures
+    let n = c.min-n in
+    held_read c.args.words.now n.result c.positions_in.result c.pool_in.result n.ensures
+    c.positions_in.ensures c.pool_in.ensures

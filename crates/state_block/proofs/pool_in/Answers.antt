@@ -13,7 +13,7 @@ use Rattle.state_block.proofs.Reading.{group_next, pool_none}
 use Rattle.state_block.proofs.pool_in.Goals as goal
 
 pub loop-i-init : goal.loop-i-init
-loop-i-init c = (search rules, search rules, pool_none c.free-none.result c.free-none.ensures)
+loop-i-init c = (search rules, search rules, pool_none c.free-pool.result c.free-pool.ensures)
 
 pub loop-i-preserved : goal.loop-i-preserved
 loop-i-preserved c =

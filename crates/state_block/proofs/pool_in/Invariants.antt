@@ -11,6 +11,3 @@ use Rattle.state_block.proofs.pool_in.Given as goal
 
 abbrev pub invariant-loop-i : goal.invariant-loop-i
 invariant-loop-i l = (l.i ≤ l.n) × (length l.pool ≡ 128) × (l.pool ≡ pad 128 (disjunct_of []) (take l.i (map disjunct_in (groups 28 128 l.words))))
-
-abbrev pub decreases-loop-i : goal.decreases-loop-i
-decreases-loop-i l = l.n - l.i

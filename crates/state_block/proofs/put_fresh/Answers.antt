@@ -6,4 +6,4 @@ use Rattle.state_block.proofs.put_fresh.Goals as goal
 
 pub returns : goal.returns
 returns c =
-    ap (λ l. set l 0 2001) c.clear.ensures ∙ fresh_words (length c.args.words.now) c.requires
+    ap (λ l. set l 0 2001) (c.fill.ensures.after (λ y e. e)) ∙ fresh_words (length c.args.words.now) c.requires

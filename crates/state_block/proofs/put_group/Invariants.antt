@@ -11,6 +11,3 @@ use Rattle.state_block.proofs.put_group.Given as goal
 abbrev pub invariant-loop-i : goal.invariant-loop-i
 invariant-loop-i l =
     (l.i ≤ 4) × (length l.words ≡ length l.initial.words) × (l.words ≡ front (gather entry_words (take l.i (view_disjunct l.d))) l.initial.words)
-
-abbrev pub decreases-loop-i : goal.decreases-loop-i
-decreases-loop-i l = 4 - l.i

@@ -10,6 +10,3 @@ use Rattle.state_block.proofs.put_pool.Given as goal
 abbrev pub invariant-loop-i : goal.invariant-loop-i
 invariant-loop-i l =
     (l.i ≤ l.n) × (length l.words ≡ length l.initial.words) × (l.words ≡ front (gather group_words (take l.i l.pool)) l.initial.words)
-
-abbrev pub decreases-loop-i : goal.decreases-loop-i
-decreases-loop-i l = l.n - l.i

@@ -1,35 +1,21 @@
 -- `put_slot` meets its contract: seven stores over the front, those of the tidied slot.
+use mathlib.Core.Path.{ap, ◌∙◌}
 use mathlib.Core.Logic.{inl, inr}
-use native.Mathlib.Omega.{arith}
-use lib.ListN.{length-set}
+use mathlib.Core.List.{List, ◌++◌}
+use Prim.Native.Nat.{ℕ}
+use lib.ListN.{drop}
 use Rattle.state_block.proofs.Writing.{slot_written}
 use Rattle.state_block.proofs.put_slot.Goals as goal
 use Rattle.state_block.proofs.put_slot.Goals.{then-t, else-t}
 
-pub bounds-words-1 : goal.bounds-words-1
-bounds-words-1 c = simp length-set (omega arith)
-
-pub bounds-words-2 : goal.bounds-words-2
-bounds-words-2 c = simp length-set (omega arith)
-
-pub bounds-words-3 : goal.bounds-words-3
-bounds-words-3 c = simp length-set (omega arith)
-
-pub bounds-words-4 : goal.bounds-words-4
-bounds-words-4 c = simp length-set (omega arith)
-
-pub bounds-words-5 : goal.bounds-words-5
-bounds-words-5 c = simp length-set (omega arith)
-
-pub bounds-words-6 : goal.bounds-words-6
-bounds-words-6 c = simp length-set (omega arith)
-
-pub shape_of-words : goal.shape_of-words
-shape_of-words c = simp length-set
-
 pub returns : goal.returns
 returns c =
     let n = c.size-n in
-    slot_written c.args.s c.tidied-t.result n.result c.if-t.code c.if-t.first c.args.words.now c.requires
+    let t = c.if-t.code in
+    ap (λ (r : List ℕ). r ++ drop 7 c.args.words.now) c.copy_from_slice.ensures.after
+    ∙ slot_written c.args.s c.tidied-t.result n.result t.0 t.1 c.args.words.now
     c.tidied-t.ensures n.ensures.0 n.ensures.1
-    (elim c.if-t.branch [ then-t a ↦ inl (a.if-t.true, a.code-is, a.first-is) | else-t b ↦ inr (b.if-t.false, b.code-is, b.first-is) ])
+    (elim c.if-t.branch [
+      | then-t a ↦ inl (a.if-t.true, ap (λ (p : ℕ × ℕ). p.0) a.code-is, ap (λ (p : ℕ × ℕ). p.1) a.code-is)
+      | else-t b ↦ inr (b.if-t.false, ap (λ (p : ℕ × ℕ). p.0) b.code-is, ap (λ (p : ℕ × ℕ). p.1) b.code-is)
+    ])

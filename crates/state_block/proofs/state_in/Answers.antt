@@ -6,6 +6,6 @@ pub returns-then-words-eq-LAYOUT : goal.returns-then-words-eq-LAYOUT
 returns-then-words-eq-LAYOUT c =
     state_known c.args.words.now c.held.result c.if-words-eq-LAYOUT.true c.held.ensures
 
-pub returns : goal.returns
-returns c =
+pub returns-else-words-eq-LAYOUT : goal.returns-else-words-eq-LAYOUT
+returns-else-words-eq-LAYOUT c =
     state_unknown c.args.words.now c.vacant.result c.if-words-eq-LAYOUT.false c.vacant.ensures

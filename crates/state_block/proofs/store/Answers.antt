@@ -11,18 +11,9 @@ use Rattle.blocks.specs.StateBlock.{group_words}
 use Rattle.state_block.proofs.Writing.{positions_sized, stored_thrice}
 use Rattle.state_block.proofs.store.Goals as goal
 
-pub slice_bounds-positions-end : goal.slice_bounds-positions-end
-slice_bounds-positions-end c =
-    omega (arith, positions_sized c.args.s c.well_formed.1.1.0)
-
-pub slice_bounds-copy-end : goal.slice_bounds-copy-end
-slice_bounds-copy-end c =
-    let size = positions_sized c.args.s c.well_formed.1.1.0 in
-    sym (length-take-le c.most-m.result c.args.s.positions (omega arith))
-
 pub copy-requires : goal.copy-requires
 copy-requires c =
-    let m = c.most-m.result in
+    let m = c.max-m.result in
     let positions = c.args.s.positions in
     let h = c.put_head.new.words in
     omega (arith, length-take m positions, length-take (length h - 3) (drop 3 h), length-drop 3 h)
@@ -30,9 +21,9 @@ copy-requires c =
 pub returns : goal.returns
 returns c =
     let a = c.args in
-    let m = c.most-m.result in
+    let m = c.max-m.result in
     let h = c.put_head.new.words in
     let v = put_mid 3 (length h - 3) h c.copy.new.to in
-    stored_thrice a.words.now h v _ a.old m a.s c.requires.1 c.most-m.ensures c.put_head.ensures
+    stored_thrice a.words.now h v _ a.old m a.s c.requires.1 c.max-m.ensures c.put_head.ensures
     (lent_front 3 (take m a.s.positions) h (omega arith) c.copy.ensures)
     (lent_front 131 (gather group_words (take m a.s.pool)) v (omega arith) c.put_pool.ensures)

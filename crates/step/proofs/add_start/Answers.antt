@@ -1,28 +1,38 @@
--- `step::add_start` meets its contract: one disjunct at most has room, so that the set is there.
+-- `step::add_start` meets its contract: the start gives one disjunct, where the position begins and it meets the constraint, or none.
 use mathlib.Core.Path.{sym, ap, ◌∙◌}
-use mathlib.Core.Bool.{true}
-use mathlib.Core.List.{[], ◌∷◌}
+use mathlib.Core.List.{[]}
+use lib.ListN.{take}
+use native.Mathlib.Omega.{arith}
 use borrow.Author.Rules.{rules}
-use Rattle.laws.specs.Sets.{insert_all, within}
-use Rattle.laws.proofs.Turns.{counted_few}
-use Rattle.meaning.specs.Labels.{compare_disjuncts}
-use Rattle.bounded.specs.Bounded.{with_start, met_list, met_set}
+use Rattle.std.proofs.Common.{Some}
+use Rattle.meaning.specs.Labels.{meets, met}
+use Rattle.bounded.specs.Bounded.{with_start, met_set}
 use Rattle.demand.specs.Constraints.{view_constraint}
 use Rattle.disjunct.specs.Disjuncts.{view_disjunct}
 use Rattle.disjunct.proofs.Disjuncts.{free_view}
-use Rattle.packed.proofs.Sets.{grown_in_law}
-use Rattle.step.proofs.Meetings.{met_start, met_no_start, start_few}
+use Rattle.packed.specs.Sets.{disjuncts_in}
+use Rattle.packed.proofs.Sets.{in_length}
+use Rattle.step.proofs.Meetings.{met_no_start, met_begun, met_not_begun}
 use Rattle.step.proofs.add_start.Goals as goal
 
-pub returns-then-begins : goal.returns-then-begins
-returns-then-begins c =
-    let k = view_constraint c.args.c in
-    let e = ap view_disjunct c.free.ensures ∙ free_view in
-    grown_in_law c.add_met.result c.add_met.new.out (met_set k (with_start c.args.begins []))
-    (c.add_met.ensures ∙ ap (λ D. within 128 (insert_all compare_disjuncts (met_list k (D ∷ [])) [])) e
-    ∙ rw (c.if-begins.true, ← met_start k) (counted_few 128 _ (met_set k (with_start true [])) (start_few k)))
+pub returns-then-not-begins : goal.returns-then-not-begins
+returns-then-not-begins c =
+    let k = view_constraint (Some c.args.c) in
+    (search rules, sym (ap (λ b. met_set k (with_start b [])) c.if-not-begins.true ∙ met_no_start k))
 
-pub returns : goal.returns
-returns c =
-    let k = view_constraint c.args.c in
-    (search rules, sym (ap (λ b. met_set k (with_start b [])) c.if-begins.false ∙ met_no_start k))
+pub returns-in-Some : goal.returns-in-Some
+returns-in-Some c =
+    let k = view_constraint (Some c.args.c) in
+    let e = ap view_disjunct c.free.ensures ∙ free_view in
+    let w = disjuncts_in c.args.out.now in (
+      search rules,
+      ap (λ l. take 1 l) c.put.ensures
+          ∙ met_begun k (view_disjunct c.in-Some.d) w c.args.begins (omega (arith, in_length c.args.out.now)) c.if-not-begins.false
+          (ap (λ D. meets D k) (sym e) ∙ sym c.in-Some.ensures.meets) (c.in-Some.ensures.met ∙ ap (λ D. met D k) e),
+    )
+
+pub returns-in-None : goal.returns-in-None
+returns-in-None c =
+    let k = view_constraint (Some c.args.c) in
+    let e = ap view_disjunct c.free.ensures ∙ free_view in
+    (search rules, met_not_begun k c.args.begins c.if-not-begins.false (ap (λ D. meets D k) (sym e) ∙ sym c.in-None.ensures.meets))

@@ -1,53 +1,49 @@
 -- `table::bound_in` meets its contract: the mask of the parameters passed, joined with that of those ahead.
 use mathlib.Core.Path.{◌≡◌, sym, ap, ◌∙◌}
 use mathlib.Core.Bool.{true}
-use mathlib.Core.List.{◌∷◌}
-use Prim.Native.Nat.{◌+◌}
-use native.Mathlib.Nat.{sub-zero}
-use native.Mathlib.Omega.{arith}
-use lib.ListN.{length, get_or}
+use mathlib.Core.List.{List, ◌∷◌, map}
+use Prim.Native.Nat.{ℕ, ◌+◌, ◌<◌}
+use native.Mathlib.Numerals.{add-one}
+use lib.ListN.{length, get_or, take, drop}
+use lib.Seq.{drop-cons}
+use Rattle.std.proofs.lemmas.List.{drop_all}
 use Rattle.laws.specs.Bits.{join}
 use Rattle.laws.proofs.Bits.{join_none, none_join}
 use Rattle.laws.specs.Lists.{all}
 use Rattle.laws.proofs.Lists.{and_true_split}
 use Rattle.meaning.specs.Book.{sound_parameter, bound_in}
+use Rattle.table.specs.declared.Parameter.{Parameter}
 use Rattle.table.specs.Tables.{view_parameter, view_symbol}
-use Rattle.table.proofs.Spans.{ahead, ahead_none, ahead_cons}
 use Rattle.table.proofs.Masks.{join_next}
 use Rattle.table.proofs.bound_in.Goals as goal
 
-pub loop-i-init : goal.loop-i-init
+-- the parameter at i and those behind it
+next : (l : List Parameter) (i : ℕ) (d : Parameter) → i < length l → map view_parameter (drop i l) ≡ view_parameter (get_or l i d) ∷ map view_parameter (drop (i + 1) l)
+next l i d h = rw (add-one, drop-cons l i d h)
+
+sound_next : (l : List Parameter) (i : ℕ) (d : Parameter) → i < length l → all (sound_parameter 32) (map view_parameter (drop i l)) ≡ true
+    → (sound_parameter 32 (view_parameter (get_or l i d)) ≡ true) × (all (sound_parameter 32) (map view_parameter (drop (i + 1) l)) ≡ true)
+sound_next l i d h a = and_true_split _ _ (ap (all (sound_parameter 32)) (sym (next l i d h)) ∙ a)
+
+pub loop-p-init : goal.loop-p-init
 unfolding view_symbol
-loop-i-init c = (omega arith, rw sub-zero c.requires.1, rw sub-zero (none_join _))
+loop-p-init c = (c.requires.1, none_join _)
 
 pub parameter_bound-m-requires : goal.parameter_bound-m-requires
-parameter_bound-m-requires c =
-    let first : let y = c.args.y in let i = c.loop-i.i in
-    ahead view_parameter y.parameters i y.count
-    ≡ view_parameter (get_or y.parameters i (record { tag = 0; number = 0 })) ∷ ahead view_parameter y.parameters (i + 1) y.count = let y = c.args.y in
-    let g : length y.parameters ≡ 4 = omega arith in
-    ahead_cons view_parameter y.parameters c.loop-i.i y.count _ c.loop-i-test.true (omega arith) in
-    let sound : let y = c.args.y in let i = c.loop-i.i in
-    (sound_parameter 32 (view_parameter (get_or y.parameters i (record { tag = 0; number = 0 }))) ≡ true)
-    × (all (sound_parameter 32) (ahead view_parameter y.parameters (i + 1) y.count) ≡ true) = and_true_split _ _ (ap (all (sound_parameter 32)) (sym first) ∙ c.loop-i.invariant.1) in
-    sound.0
+parameter_bound-m-requires c = (sound_next _ c.loop-p.p-index _ c.loop-p-test.true c.loop-p.invariant.0).0
 
-pub loop-i-preserved : goal.loop-i-preserved
+pub loop-p-preserved : goal.loop-p-preserved
 unfolding join
-loop-i-preserved c =
-    let first : let y = c.args.y in let i = c.loop-i.i in
-    ahead view_parameter y.parameters i y.count
-    ≡ view_parameter (get_or y.parameters i (record { tag = 0; number = 0 })) ∷ ahead view_parameter y.parameters (i + 1) y.count = let y = c.args.y in
-    let g : length y.parameters ≡ 4 = omega arith in
-    ahead_cons view_parameter y.parameters c.loop-i.i y.count _ c.loop-i-test.true (omega arith) in
-    let sound : let y = c.args.y in let i = c.loop-i.i in
-    (sound_parameter 32 (view_parameter (get_or y.parameters i (record { tag = 0; number = 0 }))) ≡ true)
-    × (all (sound_parameter 32) (ahead view_parameter y.parameters (i + 1) y.count) ≡ true) = and_true_split _ _ (ap (all (sound_parameter 32)) (sym first) ∙ c.loop-i.invariant.1) in
-    let l = c.loop-i in
-    (omega arith, sound.1, join_next l.m c.parameter_bound-m.ensures first ∙ l.invariant.2)
+loop-p-preserved c =
+    let l = c.loop-p in
+    let t = c.loop-p-test.true in
+    let xs = take c.args.y.count c.args.y.parameters in
+    let d : Parameter = record { tag = 0; number = 0 } in
+    ((sound_next xs l.p-index d t l.invariant.0).1, join_next l.m c.parameter_bound-m.ensures (next xs l.p-index d t) ∙ l.invariant.1)
 
 pub returns : goal.returns
+unfolding view_symbol
 returns c =
-    let l = c.loop-i in
-    let y = c.args.y in
-    sym (ap (λ ps. join l.m (bound_in ps)) (ahead_none view_parameter y.parameters l.i y.count c.loop-i-test.false) ∙ join_none l.m) ∙ l.invariant.2
+    let l = c.loop-p in
+    let xs = take c.args.y.count c.args.y.parameters in
+    sym (ap (λ ps. join l.m (bound_in (map view_parameter ps))) (drop_all l.p-index xs c.loop-p-test.false) ∙ join_none l.m) ∙ l.invariant.1

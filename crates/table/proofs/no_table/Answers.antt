@@ -5,4 +5,4 @@ use Rattle.table.proofs.no_table.Goals as goal
 
 pub returns : goal.returns
 unfolding table_of pad
-returns c = rw c.no_symbol-y.ensures
+returns c = rw c.no_symbol.ensures

@@ -26,5 +26,5 @@ returns-then-p-eq1 c =
     let h = single_below 32 p.number (small p c.requires c.if-p-eq1.true) in
     rw (one-mul, mod-eq_of_lt h) (sym (ap (λ x. bound_in (x ∷ [])) (view_named p c.if-p-eq1.true) ∙ join_none (single p.number)))
 
-pub returns : goal.returns
-returns c = view_either (λ x. 0 ≡ bound_in (x ∷ [])) c.args.p (λ h. absurd (c.if-p-eq1.false h)) (λ _. refl) (λ _ _. refl)
+pub returns-else-p-eq1 : goal.returns-else-p-eq1
+returns-else-p-eq1 c = view_either (λ x. 0 ≡ bound_in (x ∷ [])) c.args.p (λ h. absurd (c.if-p-eq1.false h)) (λ _. refl) (λ _ _. refl)

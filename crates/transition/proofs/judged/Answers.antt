@@ -1,8 +1,8 @@
 -- `transition::judged` meets its contract: the lent words hold what the state holds, made wide, so that each test is that of a check, and what they
 -- hold then is the state after the event.
-use mathlib.Core.Path.{refl}
+use mathlib.Core.Path.{refl, sym}
 use Rattle.sound.proofs.Soundness.{book_counts_law, state_count, state_number}
-use Rattle.transition.proofs.Checks.{refused_by, judged_free, judged_many, judged_none}
+use Rattle.transition.proofs.Checks.{judged_free, judged_many, judged_none}
 use Rattle.transition.proofs.Steps.{begins_sound, holding, free_known, no_room_law, accepted_by}
 use Rattle.transition.proofs.judged.Goals as goal
 
@@ -19,21 +19,19 @@ take_event-r-requires c =
 pub returns-then-r : goal.returns-then-r
 returns-then-r c =
     let left = c.take_event-r.ensures (holding _ _ c.requires.1 _ _ c.load.ensures) in
-    refused_by _ _ _ _ (judged_free _ _ _ (free_known _ _ _ _ _ _ _ left c.if-r.true)) refl c.refusal.ensures
+    (sym (judged_free _ _ _ (free_known _ _ _ _ _ _ _ left c.if-r.true)), refl)
 
 pub returns-then-state-eq-EVENTS : goal.returns-then-state-eq-EVENTS
 returns-then-state-eq-EVENTS c =
     let left = c.take_event-r.ensures (holding _ _ c.requires.1 _ _ c.load.ensures) in
-    refused_by _ _ _ _ (judged_many _ _ _ (free_known _ _ _ _ _ _ _ left c.if-r.false) c.if-state-eq-EVENTS.true) refl c.refusal-then-state-eq-EVENTS.ensures
+    (sym (judged_many _ _ _ (free_known _ _ _ _ _ _ _ left c.if-r.false) c.if-state-eq-EVENTS.true), refl)
 
-pub returns-then-r-gt-CAPACITY : goal.returns-then-r-gt-CAPACITY
-returns-then-r-gt-CAPACITY c =
+pub returns-in-None : goal.returns-in-None
+returns-in-None c =
     let left = c.take_event-r.ensures (holding _ _ c.requires.1 _ _ c.load.ensures) in
-    refused_by _ _ _ _
-    (judged_none _ _ _ (free_known _ _ _ _ _ _ _ left c.if-r.false) c.if-state-eq-EVENTS.false (no_room_law _ _ _ _ _ _ _ left c.if-r-gt-CAPACITY.true))
-    refl c.refusal-then-r-gt-CAPACITY.ensures
+    (sym (judged_none _ _ _ (free_known _ _ _ _ _ _ _ left c.if-r.false) c.if-state-eq-EVENTS.false (no_room_law _ _ _ _ _ _ _ left c.in-None.is)), refl)
 
-pub returns : goal.returns
-returns c =
+pub returns-in-Some : goal.returns-in-Some
+returns-in-Some c =
     let left = c.take_event-r.ensures (holding _ _ c.requires.1 _ _ c.load.ensures) in
-    accepted_by _ _ _ _ _ _ _ left c.if-r.false (state_number _ _ c.requires.1) c.if-state-eq-EVENTS.false c.if-r-gt-CAPACITY.false
+    accepted_by _ _ _ _ _ _ _ left _ c.in-Some.is c.if-r.false (state_number _ _ c.requires.1) c.if-state-eq-EVENTS.false

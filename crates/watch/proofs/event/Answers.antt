@@ -12,20 +12,19 @@ beside (a, b) c = (a, b, c)
 
 pub settled-requires : goal.settled-requires
 settled-requires c =
-    let step = c.step-s.ensures in
-    let moved = step.moved c.if-s.true in
-    (passed_variables _ _ _ (step_passed _ _ _ step c.if-s.true), moved.few, moved.room, moved.below)
+    let step = c.in-Ok.ensures in
+    (passed_variables _ _ _ (step_passed _ _ _ step.0), step.1.few, step.1.room, step.1.below)
 
-pub returns-then-s : goal.returns-then-s
-returns-then-s c =
+pub returns-in-Ok : goal.returns-in-Ok
+returns-in-Ok c =
     let lent : is_bytes c.args.bytes.now ≡ true = bytes_lent c.args.bytes.now c.type_inv.bytes in
-    let step = c.step-s.ensures in
+    let step = c.in-Ok.ensures in
     let done = c.settled.ensures in
-    beside (ends_settled _ _ _ _ _ (step_passed _ _ _ step c.if-s.true) _ _ _ _ (step.moved c.if-s.true) _ done.0 done.1)
+    beside (ends_settled _ _ _ _ _ (step_passed _ _ _ step.0) _ _ _ _ step.1 _ done.0 done.1)
     lent
 
-pub returns : goal.returns
-returns c =
+pub returns-in-Err : goal.returns-in-Err
+returns-in-Err c =
     let lent : is_bytes c.args.bytes.now ≡ true = bytes_lent c.args.bytes.now c.type_inv.bytes in
-    let step = c.step-s.ensures in
-    beside (ends_refused _ _ _ _ _ _ step.first (sym step.flag ∙ c.if-s.false) c.refused.ensures) lent
+    let step = c.in-Err.ensures in
+    beside (ends_refused _ _ _ _ _ _ step.0 step.1 c.refused.ensures) lent

@@ -1,64 +1,62 @@
 -- `words::kind_of` meets its contract: one return for each case of `kind_of`.
-use mathlib.Core.Path.{◌≡◌, sym, ◌∙◌}
-use mathlib.Core.Bool.{cond}
-use native.Mathlib.Omega.{arith}
-use borrow.Author.Tests.{eq-eqb, ne_eqb, le-leb, lt-leb}
-use lib.Dec.{leb}
-use Rattle.form.specs.Scan.{part, value, kind_of}
+use mathlib.Core.Path.{refl}
+use borrow.Author.Tests.{ne_eqb, le-leb, lt-leb}
+use Rattle.words.proofs.Numbers.{kind_at}
 use Rattle.words.proofs.kind_of.Goals as goal
+use Rattle.words.proofs.kind_of.Goals.{then-w-gt-KIND_DIGITS-via-then-w-gt-KIND_DIGITS}
+use Rattle.words.proofs.kind_of.Goals.{then-w-gt-KIND_DIGITS-via-else-w-gt-KIND_DIGITS+then-not-all_digits}
+use Rattle.words.proofs.kind_of.Goals.{then-w-gt-KIND_DIGITS-via-else-w-gt-KIND_DIGITS+else-not-all_digits+then-eq}
+use Rattle.words.proofs.kind_of.Goals.{then-n-eq0-via-then-n-eq0, then-n-eq0-via-else-n-eq0+then-n-gt-KIND_LIMIT}
 
-pub returns-then-e-p-gt-KIND_DIGITS : goal.returns-then-e-p-gt-KIND_DIGITS
-unfolding kind_of
-returns-then-e-p-gt-KIND_DIGITS c = rw (lt-leb _ 3 c.if-e-p-gt-KIND_DIGITS.true)
+pub returns-then-w-gt-KIND_DIGITS : goal.returns-then-w-gt-KIND_DIGITS
+returns-then-w-gt-KIND_DIGITS c =
+    let a = c.args in
+    elim c.then-w-gt-KIND_DIGITS.branch [
+      | then-w-gt-KIND_DIGITS-via-then-w-gt-KIND_DIGITS w ↦ rw (kind_at a.s.now a.p a.e c.requires.1 refl, lt-leb _ 3 w.if-w-gt-KIND_DIGITS.true)
+      | then-w-gt-KIND_DIGITS-via-else-w-gt-KIND_DIGITS+then-not-all_digits w ↦ rw (
+        kind_at a.s.now a.p a.e c.requires.1 refl,
+        le-leb _ 3 w.if-w-gt-KIND_DIGITS.false,
+        ← w.all_digits.ensures,
+        w.if-not-all_digits.true,
+      )
+      | then-w-gt-KIND_DIGITS-via-else-w-gt-KIND_DIGITS+else-not-all_digits+then-eq w ↦ rw (
+        kind_at a.s.now a.p a.e c.requires.1 w.peek.ensures,
+        le-leb _ 3 w.if-w-gt-KIND_DIGITS.false,
+        ← w.all_digits.ensures,
+        w.if-not-all_digits.false,
+        ← w.eq.ensures,
+        w.if-eq.true,
+      )
+    ]
 
-pub returns-then-not-all_digits : goal.returns-then-not-all_digits
-unfolding kind_of
-returns-then-not-all_digits c =
-    let d = c.all_digits in
-    rw (le-leb _ 3 c.if-e-p-gt-KIND_DIGITS.false, ← d.ensures, c.if-not-all_digits.true)
-
-pub returns-then-peek-eq-ZERO : goal.returns-then-peek-eq-ZERO
-unfolding kind_of
-returns-then-peek-eq-ZERO c =
-    let d = c.all_digits in
+pub returns-then-n-eq0 : goal.returns-then-n-eq0
+returns-then-n-eq0 c =
+    let a = c.args in
     rw (
-      le-leb _ 3 c.if-e-p-gt-KIND_DIGITS.false,
-      ← d.ensures,
+      kind_at a.s.now a.p a.e c.requires.1 c.peek.ensures,
+      le-leb _ 3 c.if-w-gt-KIND_DIGITS.false,
+      ← c.all_digits.ensures,
       c.if-not-all_digits.false,
-      ← c.peek.ensures,
-      eq-eqb _ 48 c.if-peek-eq-ZERO.true,
+      ← c.eq.ensures,
+      c.if-eq.false,
+      ← c.digits_value-n.ensures,
     )
-
-pub digits_value-n-requires : goal.digits_value-n-requires
-digits_value-n-requires c =
-    let d = c.all_digits in
-    let h = c.requires in
-    (h.0, h.1, omega arith, sym d.ensures ∙ c.if-not-all_digits.false)
-
-pub returns-then-n-le-KIND_LIMIT : goal.returns-then-n-le-KIND_LIMIT
-unfolding kind_of
-returns-then-n-le-KIND_LIMIT c =
-    let number : let a = c.args in
-    let n = value 0 (part a.s.now a.p a.e) in kind_of a.s.now a.p a.e ≡ cond (leb n 255) n 0 = let d = c.all_digits in
-    rw (
-      le-leb _ 3 c.if-e-p-gt-KIND_DIGITS.false,
-      ← d.ensures,
-      c.if-not-all_digits.false,
-      ← c.peek.ensures,
-      ne_eqb _ 48 c.if-peek-eq-ZERO.false,
-    ) in
-    rw (number, ← c.digits_value-n.ensures, le-leb _ 255 c.if-n-le-KIND_LIMIT.true)
+    (elim c.then-n-eq0.branch [
+      | then-n-eq0-via-then-n-eq0 w ↦ rw w.if-n-eq0.true
+      | then-n-eq0-via-else-n-eq0+then-n-gt-KIND_LIMIT w ↦ rw (lt-leb _ 255 w.if-n-gt-KIND_LIMIT.true)
+    ])
 
 pub returns : goal.returns
-unfolding kind_of
 returns c =
-    let number : let a = c.args in
-    let n = value 0 (part a.s.now a.p a.e) in kind_of a.s.now a.p a.e ≡ cond (leb n 255) n 0 = let d = c.all_digits in
+    let a = c.args in
     rw (
-      le-leb _ 3 c.if-e-p-gt-KIND_DIGITS.false,
-      ← d.ensures,
+      kind_at a.s.now a.p a.e c.requires.1 c.peek.ensures,
+      le-leb _ 3 c.if-w-gt-KIND_DIGITS.false,
+      ← c.all_digits.ensures,
       c.if-not-all_digits.false,
-      ← c.peek.ensures,
-      ne_eqb _ 48 c.if-peek-eq-ZERO.false,
-    ) in
-    rw (number, ← c.digits_value-n.ensures, lt-leb _ 255 c.if-n-le-KIND_LIMIT.false)
+      ← c.eq.ensures,
+      c.if-eq.false,
+      ← c.digits_value-n.ensures,
+      le-leb _ 255 c.if-n-gt-KIND_LIMIT.false,
+      ne_eqb _ 0 c.if-n-eq0.false,
+    )

@@ -1,25 +1,27 @@
--- `Disjunct::exclude` meets its contract: one slot with one more exclusion, or the disjunct as it was.
-use mathlib.Core.Path.{refl, sym, ap, ◌∙◌}
-use mathlib.Core.Bool.{false≢true, true≢false}
+-- `Disjunct::exclude` meets its contract: one slot with one more exclusion, or no room for it.
+use mathlib.Core.Path.{sym, ap, ◌∙◌}
 use lib.Dec.{leb}
 use lib.ListN.{length, set}
+use Rattle.std.specs.Prelude.{is_some}
 use Rattle.meaning.specs.Labels.{exclusions, excluding}
 use Rattle.disjunct.specs.Disjuncts.{view_disjunct}
 use Rattle.disjunct.proofs.Slots.{entry_at, view_set}
 use Rattle.disjunct.proofs.Disjunct.exclude.Goals as goal
 
-pub returns-then-e : goal.returns-then-e
-returns-then-e c =
+pub returns-in_err-slot-clause-room : goal.returns-in_err-slot-clause-room
+returns-in_err-slot-clause-room c =
     let a = c.args in
-    let e = c.excluding-e in
-    let h = ap (λ x. excluding x a.x) (entry_at a.self a.v) in (
-      sym c.if-e.true ∙ e.ensures.0 ∙ ap (λ x. leb (length (exclusions x)) 6) (sym h),
-      λ _. view_set a.self a.v e.result.slot ∙ ap (set (view_disjunct a.self) a.v) (e.ensures.1 c.if-e.true ∙ sym h),
-      λ f. absurd (true≢false f),
-    )
+    ap is_some c.from_residual.ensures
+    ∙ c.in_err-slot.ensures.room ∙ sym (ap (λ e. leb (length (exclusions (excluding e a.x))) 6) (entry_at a.self a.v))
 
-pub returns : goal.returns
-returns c =
+pub returns-clause-room : goal.returns-clause-room
+returns-clause-room c =
     let a = c.args in
-    let h = ap (λ x. leb (length (exclusions (excluding x a.x))) 6) (entry_at a.self a.v) in
-    (sym c.if-e.false ∙ c.excluding-e.ensures.0 ∙ sym h, λ e. absurd (false≢true e), λ _. refl)
+    c.in_ok-slot.ensures.room ∙ sym (ap (λ e. leb (length (exclusions (excluding e a.x))) 6) (entry_at a.self a.v))
+
+pub returns-clause-excluded : goal.returns-clause-excluded
+returns-clause-excluded c =
+    let a = c.args in
+    let h = ap (λ e. excluding e a.x) (entry_at a.self a.v) in
+    let r = c.in_ok-slot in
+    view_set a.self a.v r.slot ∙ ap (set (view_disjunct a.self) a.v) (r.ensures.slot ∙ sym h)

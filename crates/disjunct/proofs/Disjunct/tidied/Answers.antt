@@ -11,14 +11,13 @@ use Rattle.disjunct.proofs.Disjunct.tidied.Goals as goal
 
 pub loop-i-init : goal.loop-i-init
 unfolding disjunct_of pad
-loop-i-init c = (omega arith, c.free-d.ensures)
+loop-i-init c = c.free-d.ensures
 
 pub loop-i-preserved : goal.loop-i-preserved
 loop-i-preserved c =
     let l = c.loop-i in
     let a = c.args in
     let e = c.tidied.ensures ∙ ap slot_of (sym (entry_at a.self l.i)) in
-    let g = view_length a.self (sized a.self c.well_formed.0).four in (
-      omega arith,
-      ap₂ (λ d x. record { vars = set d.vars l.i x }) l.invariant.1 e ∙ coded_next (view_disjunct a.self) l.i (omega (arith, c.requires)) (omega arith),
-    )
+    let g = view_length a.self (sized a.self c.well_formed.0).four in
+    ap₂ (λ d x. record { vars = set d.vars l.i x }) l.invariant e
+    ∙ coded_next (view_disjunct a.self) l.i (omega (arith, c.requires)) (omega arith)

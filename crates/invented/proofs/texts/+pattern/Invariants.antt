@@ -1,5 +1,6 @@
--- `invented::texts::pattern` ends: the parts of a node that it writes have smaller numbers.
+-- `invented::texts::pattern` ends: the parts of a node are earlier nodes.
+use lib.ListN.{length}
 use Rattle.invented.proofs.texts.+pattern.Given as goal
 
 abbrev pub decreases-pattern : goal.decreases-pattern
-decreases-pattern l = l.k
+decreases-pattern l = length l.nodes.now

@@ -9,5 +9,5 @@ use Rattle.slot.proofs.Slot.admits.Goals as goal
 pub returns-then-self : goal.returns-then-self
 returns-then-self c = let a = c.args in sym (ap (λ e. admits e a.x) (view_bound a.self c.if-self.true))
 
-pub returns : goal.returns
-returns c = let a = c.args in ap not c.excludes-no.ensures ∙ admits_free a.self a.x c.if-self.false
+pub returns-else-self : goal.returns-else-self
+returns-else-self c = let a = c.args in ap not c.excludes.ensures ∙ admits_free a.self a.x c.if-self.false

@@ -1,25 +1,28 @@
--- `Slot::place` meets its contract. The loop's invariant: the numbers passed are before x, and those ahead are to be counted.
-use mathlib.Core.Path.{◌≡◌, ap}
+-- `Slot::insertion_point` meets its contract: the first number that is not before x.
+use mathlib.Core.Path.{◌≡◌, sym, ap, ◌∙◌}
+use mathlib.Core.Bool.{cond}
 use native.Mathlib.Omega.{arith}
 use borrow.Author.Rules.{rules}
-use lib.ListN.{length}
-use Rattle.laws.proofs.Lists.{taken_none}
+use lib.Dec.{leb, ltb}
+use lib.ListN.{length, take}
+use lib.Seq.{length-take-le}
+use Rattle.std.proofs.Common.{tests, Some, None}
+use Rattle.std.specs.List.{position_or_len}
+use Rattle.std.proofs.lemmas.Iterator.{YieldsList-from_slice}
+use Rattle.std.proofs.lemmas.Iterator.Search.{position_from_yields_List}
 use Rattle.slot.specs.Slots.{smaller}
 use Rattle.slot.proofs.Slots.{view_taken}
-use Rattle.slot.proofs.Insertions.{smaller_none}
+use Rattle.slot.proofs.Insertions.{smaller_few, first_from}
 use Rattle.slot.proofs.Slot.insertion_point.Goals as goal
-
-pub returns-then-x-xs : goal.returns-then-x-xs
-returns-then-x-xs c =
-    let a = c.args in
-    let z = c.size-n in
-    let l : length a.self.excluded ≡ 6 = search rules in
-    let e = smaller_none a.self.excluded z.result c.loop-i.i c.loop-i-test.true (omega arith) a.x c.if-x-xs.true in
-    omega (arith, ap (smaller a.x) (view_taken a.self z.result z.ensures.0))
 
 pub returns : goal.returns
 returns c =
     let a = c.args in
     let z = c.size-n in
-    let e = ap (smaller a.x) (taken_none a.self.excluded z.result c.loop-i.i c.loop-i-test.false) in
-    omega (arith, ap (smaller a.x) (view_taken a.self z.result z.ensures.0))
+    let xs = take z.result a.self.excluded in
+    let l : length a.self.excluded ≡ 6 = search rules in
+    let e : c.position.result ≡ cond (ltb (position_or_len (λ y. leb a.x y) xs) (length xs)) (Some (position_or_len (λ y. leb a.x y) xs)) None =
+    position_from_yields_List (λ y. leb a.x y) _ _ _ c.position.ensures.ran (YieldsList-from_slice xs cc) (λ x b q k. search (rules, tests)) in
+    let n = length-take-le z.result a.self.excluded (omega arith) in
+    let p = c.unwrap_or.ensures ∙ first_from a.x z.result xs c.position.result n e in
+    (p ∙ sym (ap (smaller a.x) (view_taken a.self z.result z.ensures.0)), omega (arith, smaller_few a.x xs))

@@ -10,14 +10,8 @@ use Rattle.slot.proofs.Slot.size.Goals as goal
 pub returns-then-self : goal.returns-then-self
 returns-then-self c = omega (arith, ap (λ x. length (exclusions x)) (view_bound c.args.self c.if-self.true))
 
-pub returns-then-self-gt-EXCLUSIONS : goal.returns-then-self-gt-EXCLUSIONS
-returns-then-self-gt-EXCLUSIONS c =
-    let s = c.args.self in
-    let l : length s.excluded ≡ 6 = search rules in
-    omega (arith, view_size s c.if-self.false)
-
-pub returns : goal.returns
-returns c =
+pub returns-else-self : goal.returns-else-self
+returns-else-self c =
     let s = c.args.self in
     let l : length s.excluded ≡ 6 = search rules in
     omega (arith, view_size s c.if-self.false)

@@ -1,9 +1,0 @@
--- `equality::name_lists` is safe and ends: the turns are counted.
-use Prim.Native.Nat.{◌-◌, ◌≤◌}
-use Rattle.equality.proofs.name_lists.Given as goal
-
-abbrev pub invariant-loop-i : goal.invariant-loop-i
-invariant-loop-i l = l.i ≤ 20
-
-abbrev pub decreases-loop-i : goal.decreases-loop-i
-decreases-loop-i l = 20 - l.i

@@ -1,9 +1,0 @@
--- `equality::slots` is safe and ends: the turns are counted.
-use Prim.Native.Nat.{◌-◌, ◌≤◌}
-use Rattle.equality.proofs.slots.Given as goal
-
-abbrev pub invariant-loop-i : goal.invariant-loop-i
-invariant-loop-i l = l.i ≤ 6
-
-abbrev pub decreases-loop-i : goal.decreases-loop-i
-decreases-loop-i l = 6 - l.i

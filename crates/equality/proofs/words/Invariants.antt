@@ -1,9 +1,0 @@
--- `equality::words` is safe and ends: the turns are counted.
-use Prim.Native.Nat.{◌-◌, ◌≤◌}
-use Rattle.equality.proofs.words.Given as goal
-
-abbrev pub invariant-loop-i : goal.invariant-loop-i
-invariant-loop-i l = l.i ≤ 31
-
-abbrev pub decreases-loop-i : goal.decreases-loop-i
-decreases-loop-i l = 31 - l.i

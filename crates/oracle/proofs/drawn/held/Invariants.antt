@@ -1,9 +1,0 @@
--- `oracle::drawn::held` is safe and ends: the entries are counted.
-use Prim.Native.Nat.{◌≤◌, ◌-◌}
-use Rattle.oracle.proofs.drawn.held.Given as goal
-
-abbrev pub invariant-loop-i : goal.invariant-loop-i
-invariant-loop-i l = l.i ≤ l.n
-
-abbrev pub decreases-loop-i : goal.decreases-loop-i
-decreases-loop-i l = l.n - l.i

@@ -1,9 +1,0 @@
--- `oracle::entries::inserted` is safe and ends: the places are counted.
-use Prim.Native.Nat.{◌≤◌, ◌-◌}
-use Rattle.oracle.proofs.entries.inserted.Given as goal
-
-abbrev pub invariant-loop-i : goal.invariant-loop-i
-invariant-loop-i l = l.i ≤ l.n
-
-abbrev pub decreases-loop-i : goal.decreases-loop-i
-decreases-loop-i l = l.n - l.i

@@ -1,0 +1,2 @@
+-- A count with a list (Counts).
+pub mod Counts

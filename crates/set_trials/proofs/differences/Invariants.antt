@@ -1,9 +1,0 @@
--- `set_trials::differences` is safe and ends: the turns are counted.
-use Rattle.std.proofs.Common.{◌≤◌, ◌-◌}
-use Rattle.set_trials.proofs.differences.Given as goal
-
-abbrev pub invariant-loop-k : goal.invariant-loop-k
-invariant-loop-k l = l.k ≤ 8
-
-abbrev pub decreases-loop-k : goal.decreases-loop-k
-decreases-loop-k l = 8 - l.k

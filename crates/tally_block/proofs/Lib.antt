@@ -1,2 +1,0 @@
--- Laws for the functions of this crate.
-pub mod Three

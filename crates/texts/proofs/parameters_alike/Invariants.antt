@@ -1,9 +1,0 @@
--- `texts::parameters_alike` is safe and ends: the turns are counted.
-use Rattle.std.proofs.Common.{◌≤◌, ◌-◌}
-use Rattle.texts.proofs.parameters_alike.Given as goal
-
-abbrev pub invariant-loop-i : goal.invariant-loop-i
-invariant-loop-i l = l.i ≤ 4
-
-abbrev pub decreases-loop-i : goal.decreases-loop-i
-decreases-loop-i l = 4 - l.i

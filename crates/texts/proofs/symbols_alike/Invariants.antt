@@ -1,9 +1,0 @@
--- `texts::symbols_alike` is safe and ends: the turns are counted.
-use Rattle.std.proofs.Common.{◌≤◌, ◌-◌}
-use Rattle.texts.proofs.symbols_alike.Given as goal
-
-abbrev pub invariant-loop-i : goal.invariant-loop-i
-invariant-loop-i l = l.i ≤ 16
-
-abbrev pub decreases-loop-i : goal.decreases-loop-i
-decreases-loop-i l = 16 - l.i
