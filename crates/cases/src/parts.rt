@@ -64,7 +64,7 @@ fn demanding(x: u32, y: u32) -> Constraint
 
 // The free disjunct met with the constraint.
 fn bound() -> Option<Disjunct> {
-    Disjunct::free().meet(Some(demanding(1, 7)))
+    Disjunct::free().meet(Some(demanding(1, 7))).ok()
 }
 
 fn meetings(s: &mut Score) {
@@ -73,8 +73,8 @@ fn meetings(s: &mut Score) {
     };
     s.count(true);
     s.count_each(&d.values(), &[1, 7, 0, 0]);
-    s.count(d.meet(Some(demanding(1, 7))).is_some());
-    s.count(d.meet(Some(demanding(2, 7))).is_none());
+    s.count(d.meet(Some(demanding(1, 7))).is_ok());
+    s.count(d.meet(Some(demanding(2, 7))).is_err());
 }
 
 fn insertions(s: &mut Score) {
@@ -99,8 +99,8 @@ fn skips(s: &mut Score) {
     packed::put(&mut from, 0, Disjunct::free());
     let n = skip::skip_by(&from, 1, Some(demanding(1, 7)), &mut out);
     s.count(n == Some(2));
-    s.count(is_same(packed::get(&out, 0), Disjunct::free().exclude(1, 7)));
-    s.count(is_same(packed::get(&out, 1), Disjunct::free().exclude(0, 1)));
+    s.count(is_same(packed::get(&out, 0), Disjunct::free().exclude(1, 7).ok()));
+    s.count(is_same(packed::get(&out, 1), Disjunct::free().exclude(0, 1).ok()));
 }
 
 // The met disjunct past the constraint: none.

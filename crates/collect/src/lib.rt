@@ -68,12 +68,12 @@ fn add_met(
     ensures gives { yield_in result out.new ≡ yield_with v (view_constraint (Some c)) (view_disjunct d ∷ []) (yield_in found out.old) }
 {
     match d.meet(Some(c)) {
-        Some(e) => {
+        Ok(e) => {
             let free = either(found.free, e.leaves_free(v));
             let rows = insert_row(out, found.rows, e.values());
             Collected { rows, free }
         }
-        None => found,
+        Err(_) => found,
     }
 }
 

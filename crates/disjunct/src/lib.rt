@@ -1,7 +1,7 @@
 // The disjunct: what it says of each of four variables; meeting and exclusion. For the matcher's sets; the order is in `ordering`.
 #![tactic(auto)]
 
-ghost use Rattle.std.specs.Prelude.{◌≡◌, ◌≤◌, ◌<◌, leb, length, take, Some, is_some, IfSome};
+ghost use Rattle.std.specs.Prelude.{◌≡◌, ◌≤◌, ◌<◌, leb, length, take, Some, is_ok, IfOk, IfErr, IfSome};
 ghost use Rattle.laws.specs.Lists.{any};
 ghost use Rattle.meaning.specs.Labels as Labels;
 ghost use Rattle.meaning.specs.Room.{exclusion_limit};
@@ -34,25 +34,27 @@ impl Disjunct {
         }
     }
 
-    // "Meeting a disjunct with a constraint yields a new disjunct or false": None is false, of the constraint and of the meeting.
-    pub fn meet(self, c: Option<Constraint>) -> Option<Disjunct>
+    // "Meeting a disjunct with a constraint yields a new disjunct or false": None is a false constraint; Err is the false meeting, with the
+    // disjunct as it was.
+    pub fn meet(self, c: Option<Constraint>) -> Result<Disjunct, Disjunct>
         requires { IfSome c Ready }
-        ensures meets { is_some result ≡ Labels.meets (view_disjunct self) (view_constraint c) }
-        ensures met { IfSome result (λ d. view_disjunct d ≡ Labels.met (view_disjunct self) (view_constraint c)) }
+        ensures meets { is_ok result ≡ Labels.meets (view_disjunct self) (view_constraint c) }
+        ensures met { IfOk result (λ d. view_disjunct d ≡ Labels.met (view_disjunct self) (view_constraint c)) }
+        ensures kept { IfErr result (λ d. d ≡ self) }
     {
         let Some(constraint) = c else {
-            return None;
+            return Err(self);
         };
         let mut d = self;
         for i in 0..constraint.count {
             let x = constraint.demands[i];
             let v = x.variable as usize;
             if !d.vars[v].admits(x.value) {
-                return None;
+                return Err(self);
             }
             d.vars[v] = Slot::holding(x.value);
         }
-        Some(d)
+        Ok(d)
     }
 
     // Whether variable v is free.
@@ -63,16 +65,21 @@ impl Disjunct {
         !self.vars[v].bound
     }
 
-    // x excluded at variable v; none where it would be the seventh.
-    pub fn exclude(self, v: usize, x: u32) -> Option<Disjunct>
+    // x excluded at variable v; the disjunct as it was where it would be the seventh.
+    pub fn exclude(self, v: usize, x: u32) -> Result<Disjunct, Disjunct>
         requires { v < variable_limit }
-        ensures room { is_some result ≡ leb (length (Labels.exclusions (Labels.excluding (Labels.entry_of (view_disjunct self) v) x))) exclusion_limit }
-        ensures excluded { IfSome result (λ d. view_disjunct d ≡ Labels.exclude (view_disjunct self) (record { variable = v; value = x })) }
+        ensures room { is_ok result ≡ leb (length (Labels.exclusions (Labels.excluding (Labels.entry_of (view_disjunct self) v) x))) exclusion_limit }
+        ensures excluded { IfOk result (λ d. view_disjunct d ≡ Labels.exclude (view_disjunct self) (record { variable = v; value = x })) }
+        ensures kept { IfErr result (λ d. d ≡ self) }
     {
         let mut d = self;
-        let slot = self.vars[v].excluding(x)?;
-        d.vars[v] = slot;
-        Some(d)
+        match self.vars[v].excluding(x) {
+            Ok(slot) => {
+                d.vars[v] = slot;
+                Ok(d)
+            }
+            Err(_) => Err(self),
+        }
     }
 
     // The first n variables as they are, the others free, and all that is not counted zero.

@@ -46,7 +46,9 @@ fn exclude_each(d: Disjunct, c: Constraint, out: &mut Words, count: usize) -> Op
         let x = c.demands[i];
         let v = x.variable as usize;
         if d.is_free(v) {
-            let e = d.exclude(v, x.value)?;
+            let Ok(e) = d.exclude(v, x.value) else {
+                return None;
+            };
             m = sets::insert(out, m, e)?;
         }
     }
@@ -64,8 +66,8 @@ fn skip_one(d: Disjunct, c: Option<Constraint>, out: &mut Words, m: usize) -> Op
         return sets::insert(out, m, d);
     };
     match d.meet(c) {
-        Some(_) => exclude_each(d, constraint, out, m),
-        None => sets::insert(out, m, d),
+        Ok(_) => exclude_each(d, constraint, out, m),
+        Err(_) => sets::insert(out, m, d),
     }
 }
 

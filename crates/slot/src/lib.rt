@@ -1,7 +1,7 @@
 // What a disjunct says of one variable: a value, or free with up to six excluded values. For the disjunct; the order is in `ordering`.
 #![tactic(auto)]
 
-ghost use Rattle.std.specs.Prelude.{◌≡◌, true, false, [], ◌∷◌, ◌++◌, suc, ◌≤◌, ◌<◌, eqb, leb, length, take, drop, is_some, IfSome};
+ghost use Rattle.std.specs.Prelude.{◌≡◌, true, false, [], ◌∷◌, ◌++◌, suc, ◌≤◌, ◌<◌, eqb, leb, length, take, drop, is_ok, IfOk, IfErr};
 ghost use Prim.Native.Nat.{compare};
 ghost use Rattle.laws.specs.Lists.{any};
 ghost use Rattle.meaning.specs.Labels as Labels;
@@ -102,23 +102,24 @@ impl Slot {
         }
     }
 
-    // x among the exclusions of a free variable, in its place; none where it would be the seventh.
-    pub fn excluding(self, x: u32) -> Option<Slot>
-        ensures room { is_some result ≡ leb (length (Labels.exclusions (Labels.excluding (view_slot self) x))) exclusion_limit }
-        ensures slot { IfSome result (λ s. view_slot s ≡ Labels.excluding (view_slot self) x) }
+    // x among the exclusions of a free variable, in its place; the slot as it was where it would be the seventh.
+    pub fn excluding(self, x: u32) -> Result<Slot, Slot>
+        ensures room { is_ok result ≡ leb (length (Labels.exclusions (Labels.excluding (view_slot self) x))) exclusion_limit }
+        ensures slot { IfOk result (λ s. view_slot s ≡ Labels.excluding (view_slot self) x) }
+        ensures kept { IfErr result (λ s. s ≡ self) }
     {
         if self.bound {
-            return Some(self);
+            return Ok(self);
         }
         let n = self.size();
         let k = self.insertion_point(x);
         if k < n && self.excluded[k] == x {
-            return Some(self);
+            return Ok(self);
         }
         if n == EXCLUSIONS {
-            return None;
+            return Err(self);
         }
-        Some(Slot {
+        Ok(Slot {
             bound: false,
             value: 0,
             count: n + 1,

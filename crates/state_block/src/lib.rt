@@ -40,7 +40,8 @@ fn slot_in(words: &[u32]) -> Slot
     requires { slot_words ≤ length words.now }
     ensures { result ≡ slot_in words.now }
 {
-    if words[0] == BOUND {
+    let code = words[0];
+    if code == BOUND {
         return Slot::holding(words[1]);
     }
     let mut excluded = [0; Disjunct::EXCLUSIONS];
@@ -48,7 +49,7 @@ fn slot_in(words: &[u32]) -> Slot
     Slot {
         bound: false,
         value: 0,
-        count: words[0] as usize,
+        count: code as usize,
         excluded,
     }
 }

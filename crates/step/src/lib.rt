@@ -42,8 +42,8 @@ fn add_met(out: &mut Words, m: usize, d: Disjunct, c: Constraint) -> Option<usiz
         (met_list (view_constraint (Some c)) (view_disjunct d ∷ [])) (take m (disjuncts_in out.old))) }
 {
     match d.meet(Some(c)) {
-        Some(e) => sets::insert(out, m, e),
-        None => Some(m),
+        Ok(e) => sets::insert(out, m, e),
+        Err(_) => Some(m),
     }
 }
 
@@ -56,11 +56,11 @@ fn add_start(out: &mut Words, begins: bool, c: Constraint) -> usize
         return 0;
     }
     match Disjunct::free().meet(Some(c)) {
-        Some(d) => {
+        Ok(d) => {
             packed::put(out, 0, d);
             1
         }
-        None => 0,
+        Err(_) => 0,
     }
 }
 

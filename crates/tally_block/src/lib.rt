@@ -1,8 +1,8 @@
 // A tally in three lent words, taken out of them and put into them. For the lent calls.
 #![tactic(auto)]
 
-ghost use Rattle.std.specs.Prelude.{◌≡◌};
-ghost use Rattle.blocks.specs.TallyBlock.{tally_in, tally_words};
+ghost use Rattle.std.specs.Prelude.{◌≡◌, length};
+ghost use Rattle.blocks.specs.TallyBlock.{tally_size, tally_in, tally_words};
 
 use tally::Tally;
 
@@ -10,20 +10,21 @@ use tally::Tally;
 pub const WORDS: usize = 3;
 
 #[tactic(auto, unfolding(blocks::specs::TallyBlock::tally_in))]
-pub fn tally_in(words: &[u64; WORDS]) -> Tally
+pub fn tally_in(words: &[u64]) -> Tally
+    requires { length words.now ≡ tally_size }
     ensures { result ≡ tally_in words.now }
 {
-    let [accepted, refused, rows] = *words;
     Tally {
-        accepted,
-        refused,
-        rows,
+        accepted: words[0],
+        refused: words[1],
+        rows: words[2],
     }
 }
 
 #[tactic(auto, unfolding(blocks::specs::TallyBlock::tally_words))]
-pub fn put_tally(words: &mut [u64; WORDS], t: Tally)
+pub fn put_tally(words: &mut [u64], t: Tally)
+    requires { length words.old ≡ tally_size }
     ensures { words.new ≡ tally_words t }
 {
-    *words = [t.accepted, t.refused, t.rows];
+    words.copy_from_slice(&[t.accepted, t.refused, t.rows]);
 }

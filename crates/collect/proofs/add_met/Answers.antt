@@ -14,10 +14,10 @@ use Rattle.rows.specs.Valuations.{rows_grown}
 use Rattle.collect.specs.Yields.{yield_in}
 use Rattle.collect.proofs.add_met.Goals as goal
 
-pub returns-in-Some-clause-gives : goal.returns-in-Some-clause-gives
-returns-in-Some-clause-gives c =
+pub returns-in-Ok-clause-gives : goal.returns-in-Ok-clause-gives
+returns-in-Ok-clause-gives c =
     let a = c.args in
-    let m = c.in-Some.ensures in
+    let m = c.in-Ok.ensures in
     let same = m.met in
     ap₂ (λ g f. record { rows = g; free = f })
     (c.insert_row-rows.ensures.set
@@ -26,7 +26,7 @@ returns-in-Some-clause-gives c =
     ∙ ap (λ f. a.found.free || f) (c.leaves_free.ensures ∙ ap (λ D. any is_free (take a.v D)) same))
     ∙ sym (yield_met a.v (view_constraint (Some a.c)) (view_disjunct a.d) (yield_in a.found a.out.now) (sym m.meets))
 
-pub returns-in-None-clause-gives : goal.returns-in-None-clause-gives
-returns-in-None-clause-gives c =
+pub returns-in-Err-clause-gives : goal.returns-in-Err-clause-gives
+returns-in-Err-clause-gives c =
     let a = c.args in
-    sym (yield_unmet a.v (view_constraint (Some a.c)) (view_disjunct a.d) (yield_in a.found a.out.now) (sym c.in-None.ensures.meets))
+    sym (yield_unmet a.v (view_constraint (Some a.c)) (view_disjunct a.d) (yield_in a.found a.out.now) (sym c.in-Err.ensures.meets))

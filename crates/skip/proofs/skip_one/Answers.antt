@@ -6,19 +6,19 @@ use Rattle.packed.specs.Sets.{disjuncts_in}
 use Rattle.skip.proofs.Demands.{skip_met, skip_kept, kept_one}
 use Rattle.skip.proofs.skip_one.Goals as goal
 
-pub returns-in-Some-meet-clause-set : goal.returns-in-Some-meet-clause-set
-returns-in-Some-meet-clause-set c =
+pub returns-in-Ok-clause-set : goal.returns-in-Ok-clause-set
+returns-in-Ok-clause-set c =
     let D = view_disjunct c.args.d in
-    let met = sym c.in-Some-meet.ensures.meets in
+    let met = sym c.in-Ok.ensures.meets in
     rw c.in-Some.is (rw (skip_met c.in-Some.constraint D met) c.exclude_each.ensures.set)
 
-pub returns-in-None-clause-set : goal.returns-in-None-clause-set
-returns-in-None-clause-set c =
+pub returns-in-Err-clause-set : goal.returns-in-Err-clause-set
+returns-in-Err-clause-set c =
     let D = view_disjunct c.args.d in
-    let apart = sym c.in-None.ensures.meets in
+    let apart = sym c.in-Err.ensures.meets in
     rw c.in-Some.is
     (rw (skip_kept c.in-Some.constraint D apart)
-    (c.insert-in-None.ensures.set ∙ sym (kept_one D (take c.args.m (disjuncts_in c.args.out.now)) c.requires.2)))
+    (c.insert-in-Err.ensures.set ∙ sym (kept_one D (take c.args.m (disjuncts_in c.args.out.now)) c.requires.2)))
 
 pub returns-in_default-clause-set : goal.returns-in_default-clause-set
 returns-in_default-clause-set c =

@@ -2,10 +2,10 @@
 use Rattle.state_block.proofs.Reading.{slot_bound, slot_free}
 use Rattle.state_block.proofs.slot_in.Goals as goal
 
-pub returns-then-words-eq-BOUND : goal.returns-then-words-eq-BOUND
-returns-then-words-eq-BOUND c =
-    slot_bound c.args.words.now c.holding.result c.if-words-eq-BOUND.true c.holding.ensures
+pub returns-then-code-eq-BOUND : goal.returns-then-code-eq-BOUND
+returns-then-code-eq-BOUND c =
+    slot_bound c.args.words.now c.holding.result c.if-code-eq-BOUND.true c.holding.ensures
 
 pub returns : goal.returns
 returns c =
-    slot_free c.args.words.now c.copy_from_slice.new.self c.if-words-eq-BOUND.false c.copy_from_slice.ensures.after
+    slot_free c.args.words.now c.copy_from_slice.new.self c.if-code-eq-BOUND.false c.copy_from_slice.ensures.after

@@ -20,19 +20,19 @@ returns-then-not-begins c =
     let k = view_constraint (Some c.args.c) in
     (search rules, sym (ap (λ b. met_set k (with_start b [])) c.if-not-begins.true ∙ met_no_start k))
 
-pub returns-in-Some : goal.returns-in-Some
-returns-in-Some c =
+pub returns-in-Ok : goal.returns-in-Ok
+returns-in-Ok c =
     let k = view_constraint (Some c.args.c) in
     let e = ap view_disjunct c.free.ensures ∙ free_view in
     let w = disjuncts_in c.args.out.now in (
       search rules,
       ap (λ l. take 1 l) c.put.ensures
-          ∙ met_begun k (view_disjunct c.in-Some.d) w c.args.begins (omega (arith, in_length c.args.out.now)) c.if-not-begins.false
-          (ap (λ D. meets D k) (sym e) ∙ sym c.in-Some.ensures.meets) (c.in-Some.ensures.met ∙ ap (λ D. met D k) e),
+          ∙ met_begun k (view_disjunct c.in-Ok.d) w c.args.begins (omega (arith, in_length c.args.out.now)) c.if-not-begins.false
+          (ap (λ D. meets D k) (sym e) ∙ sym c.in-Ok.ensures.meets) (c.in-Ok.ensures.met ∙ ap (λ D. met D k) e),
     )
 
-pub returns-in-None : goal.returns-in-None
-returns-in-None c =
+pub returns-in-Err : goal.returns-in-Err
+returns-in-Err c =
     let k = view_constraint (Some c.args.c) in
     let e = ap view_disjunct c.free.ensures ∙ free_view in
-    (search rules, met_not_begun k c.args.begins c.if-not-begins.false (ap (λ D. meets D k) (sym e) ∙ sym c.in-None.ensures.meets))
+    (search rules, met_not_begun k c.args.begins c.if-not-begins.false (ap (λ D. meets D k) (sym e) ∙ sym c.in-Err.ensures.meets))

@@ -55,9 +55,12 @@ returns-then-not-admits-clause-meets c =
     let h = ap (λ e. admits e x.value) (entry_at l.d x.variable) ∙ sym c.admits.ensures ∙ c.if-not-admits.true in
     rw c.in-Some.is (sym (meets_first (view_disjunct l.d) first h) ∙ l.invariant.1)
 
+pub returns-then-not-admits-clause-kept : goal.returns-then-not-admits-clause-kept
+returns-then-not-admits-clause-kept c = refl
+
 pub returns : goal.returns
 returns c =
     let l = c.loop-i in
     let D = view_disjunct l.d in
     let n = sym (demands_end c.in-Some.constraint l.i c.loop-i-test.false) in
-    rw c.in-Some.is (record { meets = ap (meets_all D) n ∙ l.invariant.1; met = ap (met_all D) n ∙ l.invariant.2 })
+    rw c.in-Some.is (record { meets = ap (meets_all D) n ∙ l.invariant.1; met = ap (met_all D) n ∙ l.invariant.2; kept = search rules })

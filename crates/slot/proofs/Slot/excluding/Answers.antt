@@ -1,5 +1,5 @@
 -- `Slot::excluding` meets its contract: the slot stays as it is, has no room, or gets the value in its place.
-use mathlib.Core.Path.{◌≡◌, sym, ◌∙◌}
+use mathlib.Core.Path.{◌≡◌, refl, sym, ◌∙◌}
 use Prim.Native.Nat.{suc, ◌<◌}
 use native.Mathlib.Omega.{arith}
 use borrow.Author.Rules.{rules}
@@ -13,7 +13,7 @@ pub returns-then-self : goal.returns-then-self
 returns-then-self c =
     let a = c.args in
     let e = excluding_bound a.self a.x c.if-self.true in
-    record { room = kept_room a.self a.x (search rules) e; slot = sym e }
+    record { room = kept_room a.self a.x (search rules) e; slot = sym e; kept = search rules }
 
 pub returns-then-self-k : goal.returns-then-self-k
 returns-then-self-k c =
@@ -21,7 +21,7 @@ returns-then-self-k c =
     let z = c.size-n in
     let k = c.insertion_point-k in
     let e = found_slot a.self a.x z.result k.result c.if-self.false z.ensures.0 k.ensures.0 c.if-k-n.true c.if-self-k.true in
-    record { room = kept_room a.self a.x (search rules) e; slot = sym e }
+    record { room = kept_room a.self a.x (search rules) e; slot = sym e; kept = search rules }
 
 pub returns-then-n-eq-EXCLUSIONS : goal.returns-then-n-eq-EXCLUSIONS
 returns-then-n-eq-EXCLUSIONS c =
@@ -32,7 +32,7 @@ returns-then-n-eq-EXCLUSIONS c =
     λ l. elim c.else-k-n.branch [ else-k-n-via-then-k-n+else-self-k w ↦ w.if-self-k.false | else-k-n-via-else-k-n w ↦ absurd (omega arith) ] in
     let l : length a.self.excluded ≡ 6 = search rules in
     let e = gap_room a.self a.x z.result k.result c.if-self.false z.ensures.0 k.ensures.0 absent (omega arith) in
-    record { room = sym (e ∙ lt-leb (suc z.result) 6 (omega arith)); slot = search rules }
+    record { room = sym (e ∙ lt-leb (suc z.result) 6 (omega arith)); slot = search rules; kept = refl }
 
 pub opened-requires : goal.opened-requires
 opened-requires c =
@@ -54,4 +54,5 @@ returns c =
     record {
       room = sym (e ∙ le-leb (suc z.result) 6 (omega arith));
       slot = gap_view a.self a.x z.result k.result c.if-self.false z.ensures.0 k.ensures.0 absent c.opened.result c.opened.ensures;
+      kept = search rules;
     }
