@@ -29,6 +29,7 @@ use Rattle.parsing.proofs.Scans.{inside_of}
 use Rattle.parsing.proofs.Words.{Gap, gap, byte_inside}
 use Rattle.parsing.proofs.Numerals.{number_found}
 use Rattle.text.specs.declared.Refusal.{Refusal}
+use Rattle.text.specs.Steps.{brought}
 use Rattle.table.specs.Tables.{parameter_of, symbol_of, name_of, table_of, view_symbol, view_table, Ready}
 use Rattle.table.specs.declared.Parameter as Tables
 use Rattle.table.specs.declared.Symbol.{Symbol}
@@ -127,10 +128,10 @@ module _ {y : Symbol} (v : Events.Symbol) (e : y ≡ symbol_of v) (l : length v.
 
 -- A symbol as the code has it, that codes what is read back of it.
 module _ {y : Symbol} (h : y ≡ symbol_of (view_symbol y)) where
-  pub arguments_kept : {q : ℕ} {a : Arguments} → a ≡ record { step = go q; parameters = (view_symbol y).parameters }
-      → Ok (record { place = q; symbol = y }) ≡ arguments_read y.kind a
+  pub arguments_kept : {x : Scan.Step} {a : Arguments} → a ≡ record { step = x; parameters = (view_symbol y).parameters }
+      → brought x (record { place = x.place; symbol = y }) ≡ arguments_read y.kind a
   unfolding view_symbol
-  arguments_kept {q} e = rw e (ap (λ (z : Symbol). Ok (record { place = q; symbol = z })) h)
+  arguments_kept {x} e = rw e (ap (λ (z : Symbol). brought x (record { place = x.place; symbol = z })) h)
 
   coded_count : y.count ≡ length (view_symbol y).parameters
   unfolding symbol_of

@@ -16,7 +16,7 @@ use Rattle.table.specs.Tables.{table_of, view_table, Ready}
 use Rattle.table.specs.declared.Table.{Table}
 use Rattle.std.specs.Prelude.{Ok, Err}
 use Rattle.text.specs.declared.Refusal.{Refusal}
-use Rattle.text.proofs.Steps.{brought_ok, brought_err, brought_other}
+use Rattle.text.proofs.Steps.{brought_ok, brought_err}
 use Rattle.lines.specs.declared.LinesRead.{LinesRead}
 use Rattle.lines.specs.Results.{lines_read, variables_read}
 use Rattle.lines.proofs.Gaps.{word_within}
@@ -79,10 +79,11 @@ module _ (s : Bytes) {e : ℕ} (ends : e ≡ word_end s 0) {t : Table} (none : t
     unfolding lines_in
     vars_found many f = rw (← ends, h, eq-eqb _ 0 f)
 
-    pub vars_stopped : {r : Refusal} → Err r ≡ variables_read vars → Err r ≡ lines_read (lines_of s)
+    pub vars_stopped : {r : Refusal} → Err r ≡ variables_read vars → Err (record { refusal = r; table = t }) ≡ lines_read (lines_of s)
     vars_stopped i =
         let (f, k) = brought_err vars.step _ i in
-        rw (lines_in_law s (none_room none) refl, vars_failed 16 f) (brought_other vars.step _ i _)
+        rw (lines_in_law s (none_room none) refl, vars_failed 16 f, ne_eqb vars.step.fault 0 f)
+        (ap₂ (λ (e : Refusal) (u : Table). Err (record { refusal = e; table = u })) k none)
 
     -- and v is what was read
     module _ {v : LinesRead} (reads : Ok v ≡ variables_read vars) where

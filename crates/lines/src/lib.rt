@@ -1,14 +1,14 @@
 // The reader of the lines before the pattern: `vars`, then `sym` lines, up to the word `match`. For the reader of books.
 #![tactic(auto)]
 
-ghost use Rattle.std.specs.Prelude.{◌≡◌, true, map, ◌-◌, ◌+◌, ◌≤◌, length, take};
+ghost use Rattle.std.specs.Prelude.{◌≡◌, true, map, ◌-◌, ◌+◌, ◌≤◌, length, take, Err};
 ghost use Rattle.laws.specs.Lists.{all};
 ghost use Rattle.form.specs.Limits.{variable_limit, symbol_limit, parameter_limit};
 ghost use Rattle.form.specs.Form.{same_word};
 ghost use Rattle.form.specs.Scan.{part};
 ghost use Rattle.form.specs.Lines as Lines;
 ghost use Rattle.table.specs.Tables.{symbol_of, span_of, inside, view_symbol, view_table, Ready};
-ghost use Rattle.lines.specs.Results.{lines_read, variables_read, arguments_read, symbol_read, name_read, argument_read};
+ghost use Rattle.lines.specs.Results.{lines_read, variables_read, arguments_read, symbol_read, name_brought, argument_read};
 
 use table::{Name, Parameter, Symbol, Table};
 use text::Refusal;
@@ -17,6 +17,13 @@ use text::Refusal;
 #[derive(Clone, Copy)]
 pub struct LinesRead {
     pub place: usize,
+    pub table: Table,
+}
+
+// Why the lines are refused, and the table so far.
+#[derive(Clone, Copy)]
+pub struct LinesRefused {
+    pub refusal: Refusal,
     pub table: Table,
 }
 
@@ -43,7 +50,7 @@ fn is_word(s: &[u8], p: usize, e: usize, word: &[u8]) -> bool
 // The word from p to e as a new name beside those names.
 fn new_name(s: &[u8], names: &[Name], p: usize, e: usize) -> Result<Name, Refusal>
     requires { (p ≤ e) × (e ≤ length s.now) × (all (inside (length s.now)) (map span_of names.now) ≡ true) }
-    ensures { result ≡ name_read s.now (map span_of names.now) p e }
+    ensures { result ≡ name_brought s.now (map span_of names.now) p e }
 {
     words::name_told(s, p, e)?;
     if lookup::find(s, names, p, e).is_some() {
@@ -159,8 +166,15 @@ fn symbol_from(s: &[u8], t: Table, p: usize) -> Result<SymbolRead, Refusal>
     kind_from(s, t, name, e)
 }
 
+// Refused for that reason, with the table so far.
+fn refused(refusal: Refusal, table: Table) -> Result<LinesRead, LinesRefused>
+    ensures { result ≡ Err (record { refusal = refusal; table = table }) }
+{
+    Err(LinesRefused { refusal, table })
+}
+
 // `sym` lines from p on, up to the word `match`, behind which the place to go on from lies.
-fn lines_from(s: &[u8], t: Table, p: usize) -> Result<LinesRead, Refusal>
+fn lines_from(s: &[u8], t: Table, p: usize) -> Result<LinesRead, LinesRefused>
     requires { Ready s.now t × (p ≤ length s.now) }
     ensures { result ≡ lines_read (Lines.lines_from s.now (symbol_limit - t.count) (view_table t) p) }
 {
@@ -168,30 +182,35 @@ fn lines_from(s: &[u8], t: Table, p: usize) -> Result<LinesRead, Refusal>
     let count = t.count;
     if is_word(s, p, e, b"match") {
         if count == 0 {
-            return Err(Refusal::BadLine(p));
+            return refused(Refusal::BadLine(p), t);
         }
         return Ok(LinesRead { place: e, table: t });
     }
     if !is_word(s, p, e, b"sym") {
-        return Err(Refusal::BadLine(p));
+        return refused(Refusal::BadLine(p), t);
     }
     if table::SYMBOLS <= count {
-        return Err(Refusal::AboveLimit(p));
+        return refused(Refusal::AboveLimit(p), t);
     }
-    let r = symbol_from(s, t, e)?;
+    let r = match symbol_from(s, t, e) {
+        Ok(r) => r,
+        Err(refusal) => return refused(refusal, t),
+    };
     let more = table::with_symbol(t, r.name, r.symbol);
     lines_from(s, more, r.place)
 }
 
 // All lines before the pattern.
-pub fn lines_of(s: &[u8]) -> Result<LinesRead, Refusal>
+pub fn lines_of(s: &[u8]) -> Result<LinesRead, LinesRefused>
     ensures { result ≡ lines_read (Lines.lines_of s.now) }
 {
     let none = table::no_table();
     let e = text::word_end(s, 0);
     if !is_word(s, 0, e, b"vars") {
-        return Err(Refusal::BadLine(0));
+        return refused(Refusal::BadLine(0), none);
     }
-    let v = variables_from(s, none, e)?;
-    lines_from(s, v.table, v.place)
+    match variables_from(s, none, e) {
+        Ok(v) => lines_from(s, v.table, v.place),
+        Err(refusal) => refused(refusal, none),
+    }
 }

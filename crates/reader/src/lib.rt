@@ -19,7 +19,10 @@ fn short_read(s: &[u8]) -> Result<Reading, Refusal>
     ensures { MatchResult result (λ r. r ≡ reading s.now)
         (λ e. record { answer = answer_for e; book = empty_book; begin_count = 0; end_count = 0 } ≡ reading s.now) }
 {
-    let l = lines::lines_of(s)?;
+    let l = match lines::lines_of(s) {
+        Ok(l) => l,
+        Err(e) => return Err(e.refusal),
+    };
     let m = matching::match_from(s, l.table, l.place)?;
     Ok(Reading {
         answer: ReadingAnswer::Accepted,

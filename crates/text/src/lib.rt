@@ -13,6 +13,8 @@ pub const SPACE: u8 = b' ';
 
 pub const LF: u8 = b'\n';
 
+pub const ZERO: u8 = b'0';
+
 // Why a text is refused and where: the answers 2 to 8 of document 01, with the first byte of the offending word or token.
 #[derive(Clone, Copy, PartialEq, Eq)]
 pub enum Refusal {
@@ -56,19 +58,26 @@ fn is_word_byte(b: u8) -> bool
     b != SPACE && b != LF
 }
 
+// What stands from p on, nothing past the end. A run is counted from here, as `skip` would step over all that stands before.
+pub fn rest(s: &[u8], p: usize) -> &[u8]
+    ensures { result.now ≡ drop p s.now }
+{
+    &s[p.min(s.len())..]
+}
+
 // How many spaces stand from p on, and how many bytes of a word.
 fn spaces(s: &[u8], p: usize) -> usize
     ensures value { result ≡ prefix_len is_space (drop p s.now) }
     ensures within { result ≤ length s.now - p }
 {
-    s.iter().skip(p).take_while(|b| **b == SPACE).count()
+    rest(s, p).iter().take_while(|b| **b == SPACE).count()
 }
 
 fn word_bytes(s: &[u8], p: usize) -> usize
     ensures value { result ≡ prefix_len is_word_byte (drop p s.now) }
     ensures within { result ≤ length s.now - p }
 {
-    s.iter().skip(p).take_while(|b| is_word_byte(**b)).count()
+    rest(s, p).iter().take_while(|b| is_word_byte(**b)).count()
 }
 
 pub fn spaces_end(s: &[u8], p: usize) -> usize

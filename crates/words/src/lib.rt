@@ -26,8 +26,8 @@ fn name_bytes(s: &[u8], p: usize) -> usize
     ensures value { result ≡ prefix_len is_name_byte (drop p s.now) }
     ensures within { result ≤ length s.now - p }
 {
-    s.iter()
-        .skip(p)
+    text::rest(s, p)
+        .iter()
         .take_while(|b| text::is_name_byte(**b))
         .count()
 }
@@ -67,7 +67,7 @@ fn digits_value(w: &[u8]) -> u64
 {
     let mut n = 0;
     for b in w {
-        n = n * 10 + u64::from(*b - b'0');
+        n = n * 10 + u64::from(*b - text::ZERO);
     }
     n
 }
@@ -78,7 +78,7 @@ pub fn kind_of(s: &[u8], p: usize, e: usize) -> Option<u32>
     ensures { result ≡ kind_told s.now p e }
 {
     let w = &s[p..e];
-    if KIND_DIGITS < w.len() || !all_digits(w) || text::peek(s, p) == Some(b'0') {
+    if KIND_DIGITS < w.len() || !all_digits(w) || text::peek(s, p) == Some(text::ZERO) {
         return None;
     }
     let n = digits_value(w);
@@ -98,7 +98,7 @@ pub fn number_of(s: &[u8], p: usize, e: usize) -> Option<u32>
         return None;
     }
     let w = &s[p..e];
-    if !all_digits(w) || (1 < w.len() && w[0] == b'0') {
+    if !all_digits(w) || (1 < w.len() && w[0] == text::ZERO) {
         return None;
     }
     u32::try_from(digits_value(w)).ok()

@@ -1,6 +1,5 @@
 -- `reader::short_read` meets its contract: each return is a branch of `reading_of`, chosen by the tests that the code makes.
 use mathlib.Core.Path.{◌≡◌, sym, ap, ap₂, ◌∙◌}
-use mathlib.Core.Bool.{true}
 use Prim.Native.Nat.{ℕ, ◌≤◌}
 use native.Mathlib.Omega.{arith}
 use borrow.Author.Tests.{le-ltb, ne_eqb, eqb-true, eqb-false}
@@ -21,21 +20,19 @@ use Rattle.parsing.proofs.Header.{lines_place}
 use Rattle.parsing.proofs.Outcomes.{known}
 use Rattle.text.specs.declared.Refusal.{Refusal}
 use Rattle.text.specs.Refusals.{refusal_of}
-use Rattle.text.proofs.Steps.{brought_ok, brought_err}
 use Rattle.table.specs.Tables.{table_of, view_table}
-use Rattle.table.specs.declared.Table.{Table}
 use Rattle.lines.specs.Results.{lines_read}
 use Rattle.lines.specs.declared.LinesRead.{LinesRead}
+use Rattle.lines.specs.declared.LinesRefused.{LinesRefused}
+use Rattle.lines.proofs.Known.{lines_ok, lines_err}
 use Rattle.piece.specs.Pieces.{piece_of}
-use Rattle.piece.specs.declared.Piece.{Piece}
 use Rattle.piece.proofs.Arrays.{whole_symbols, whole_follows}
 use Rattle.items.specs.Results.{parsed_of, Readable}
 use Rattle.items.specs.declared.Parsed.{Parsed}
-use Rattle.items.proofs.Leaves.{Good, Bad, good, bad}
+use Rattle.items.proofs.Leaves.{good, bad}
 use Rattle.book.specs.Answers.{answer_of, answer_for}
 use Rattle.book.proofs.Refusals.{answer_refused}
 use Rattle.book.specs.Books.{empty_book, book_with, book_for, reading_for, reading}
-use Rattle.book.specs.declared.Book.{Book}
 use Rattle.book.specs.declared.Reading.{Reading}
 use Rattle.book.specs.declared.ReadingAnswer.TheVariants as Answer
 use Rattle.reader.proofs.Found.{lines_ready, lines_viewed}
@@ -88,17 +85,17 @@ module _ (s : Bytes) (short : length s ≤ 4096) where
   stopped x r h = sym (ap reading_for r ∙ refused_reading x h (λ k. not_long (ap (λ o. o.number) r ∙ k)))
 
   -- the same of what the code has read: of the lines
-  lines_stop : {e : Refusal} → Err e ≡ lines_read (lines_of s) → refusal e ≡ reading s
+  lines_stop : {e : LinesRefused} → Err e ≡ lines_read (lines_of s) → refusal e.refusal ≡ reading s
   lines_stop h =
-      let b = brought_err (lines_of s).step _ h in
-      ap refusal b.1 ∙ stopped (lines_of s).step (lines_fault b.0) b.0
+      let b = lines_err (lines_of s) h in
+      ap (λ e. refusal e.refusal) b.1 ∙ stopped (lines_of s).step (lines_fault b.0) b.0
 
   module _ {l : LinesRead} (e : Ok l ≡ lines_read (lines_of s)) where
     fine : (lines_of s).step.fault ≡ 0
-    fine = (brought_ok (lines_of s).step _ e).0
+    fine = (lines_ok (lines_of s) e).0
 
     same : l ≡ record { place = (lines_of s).step.place; table = table_of (lines_of s).table }
-    same = (brought_ok (lines_of s).step _ e).1
+    same = (lines_ok (lines_of s) e).1
 
     readable : Readable s l.table 0 l.place
     readable = rw same (record { short = short; ready = lines_ready s fine; few = omega arith; in_text = lines_place s })
@@ -126,18 +123,16 @@ module _ (s : Bytes) (short : length s ≤ 4096) where
         let n : size whole.tree ≤ 31 = rw o at (few s (ap (λ z. z.number) o)) in
         rw (b.piece, ap (λ z. z.table) same) (sym (ap reading_for o ∙ accepted_reading _ (lines_of s).table whole.tree n))
 
-pub returns-in_err-l : goal.returns-in_err-l
-returns-in_err-l c =
-    let p = err_from_is_err_and c.from_residual.result c.from_residual.ensures.1 in
-    rw (p.1, p.2) (lines_stop c.args.s.now c.requires c.in_err-l.ensures)
+pub returns-in-Err : goal.returns-in-Err
+returns-in-Err c = lines_stop c.args.s.now c.requires c.in-Err.ensures
 
 pub match_from-requires : goal.match_from-requires
-match_from-requires c = readable c.args.s.now c.requires c.in_ok-l.ensures
+match_from-requires c = readable c.args.s.now c.requires c.in-Ok.ensures
 
 pub returns-in_err-m : goal.returns-in_err-m
 returns-in_err-m c =
-    let p = err_from_is_err_and c.from_residual-in_err-m.result c.from_residual-in_err-m.ensures.1 in
-    rw (p.1, p.2) (pattern_stop c.args.s.now c.requires c.in_ok-l.ensures c.in_err-m.ensures)
+    let p = err_from_is_err_and c.from_residual.result c.from_residual.ensures.1 in
+    rw (p.1, p.2) (pattern_stop c.args.s.now c.requires c.in-Ok.ensures c.in_err-m.ensures)
 
 pub returns : goal.returns
-returns c = rw c.book_of.ensures (accepted_same c.args.s.now c.requires c.in_ok-l.ensures c.in_ok-m.ensures)
+returns c = rw c.book_of.ensures (accepted_same c.args.s.now c.requires c.in-Ok.ensures c.in_ok-m.ensures)
