@@ -2,7 +2,8 @@
 // `book`, number, place. For the listings over values and over lent words; of a set of books each row and each refused text also has its book.
 #![tactic(auto)]
 
-ghost use Rattle.std.specs.Prelude.{◌≡◌, ◌<◌, ◌≤◌, length, IfOk, OnErr};
+ghost use Rattle.std.specs.Prelude.{◌≡◌, ◌<◌, ◌≤◌, ◌⊎◌, length, take, IfOk, OnOk, OnErr};
+ghost use Rattle.std.specs.Io.KnownBytes.{Appends};
 
 use itoa::Buffer;
 use record::RECORD;
@@ -49,9 +50,13 @@ impl<W: Write + Drop> Listing<W> {
         }
     }
 
-    // Writes what is gathered. Here as below an error is the writer's own, and comes only where something had to be written.
+    // Writes what is gathered, and then none of it counts as gathered; its bytes stay. Here as below an error is the writer's own, and comes
+    // only where something had to be written.
     pub fn flush(&mut self) -> io::Result<()>
-        ensures kept { OnErr result (self.new.gathered ≡ self.old.gathered) }
+        ensures kept { self.new.gathered ≡ self.old.gathered }
+        ensures written { OnOk result (Appends (W.contents self.old.writer) (W.contents self.new.writer)
+            (take self.old.size self.old.gathered)) }
+        ensures emptied { OnOk result (self.new.size ≡ 0) }
         ensures size { OnErr result (self.new.size ≡ self.old.size) }
         ensures some { OnErr result (0 < self.old.size) }
     {
@@ -62,9 +67,12 @@ impl<W: Write + Drop> Listing<W> {
         Ok(())
     }
 
-    // Writes what is gathered where less than a line's room is left.
+    // Writes what is gathered where less than a line's room is left. Otherwise it stays gathered: nothing is dropped.
     fn make_room(&mut self) -> io::Result<()>
-        ensures kept { OnErr result (self.new.gathered ≡ self.old.gathered) }
+        ensures kept { self.new.gathered ≡ self.old.gathered }
+        ensures room { OnOk result (self.new.size ≤ 65000) }
+        ensures written { OnOk result ((self.new.size ≡ self.old.size) ⊎ ((self.new.size ≡ 0)
+            × Appends (W.contents self.old.writer) (W.contents self.new.writer) (take self.old.size self.old.gathered))) }
         ensures size { OnErr result (self.new.size ≡ self.old.size) }
         ensures full { OnErr result (65000 < self.old.size) }
     {
@@ -121,11 +129,15 @@ impl<W: Write + Drop> Listing<W> {
         Ok(())
     }
 
-    // The next record of a reader: how many bytes it has. Where reading fails, what is gathered is written first, and the reader's error is
-    // handed on.
+    // The next record of a reader: how many bytes it has. What is gathered stays so. Where reading fails, it is written first, and the
+    // reader's error is handed on; where that fails too, it stays gathered, and the error is the writer's.
     fn next_record<E: Read>(&mut self, events: &mut E, bytes: &mut [u8]) -> io::Result<usize>
         ensures read { IfOk result (λ n. n ≤ length bytes.new) }
         ensures failed { OnErr result (length bytes.new ≡ length bytes.old) }
+        ensures kept { self.new.gathered ≡ self.old.gathered }
+        ensures size { OnOk result (self.new.size ≡ self.old.size) }
+        ensures written { OnErr result ((self.new.size ≡ self.old.size) ⊎ ((self.new.size ≡ 0)
+            × Appends (W.contents self.old.writer) (W.contents self.new.writer) (take self.old.size self.old.gathered))) }
     {
         match input::fill(events, bytes) {
             Ok(n) => Ok(n),
@@ -138,7 +150,8 @@ impl<W: Write + Drop> Listing<W> {
 
     // All records of a reader, a last short one too: for each its line and its rows, by a call that takes the record and a buffer for rows and
     // gives the answer's number and how many rows it wrote. So many events were accepted before. A proved loop has to end, and nothing says
-    // that the input does, so it also ends at the largest 64-bit number of a record, which no input reaches.
+    // that the input does, so it also ends at the largest 64-bit number of a record, which no input reaches. Where it ends well, all that
+    // was gathered is written.
     pub fn list<E: Read, F: FnMut(&[u8], &mut [u8]) -> (usize, usize)>(
         &mut self,
         events: &mut E,
@@ -148,6 +161,8 @@ impl<W: Write + Drop> Listing<W> {
         mut call: F,
     ) -> io::Result<()>
         requires { F.IsAlwaysCallable call }
+        ensures buffer { length buffer.new ≡ length buffer.old }
+        ensures emptied { OnOk result (self.new.size ≡ 0) }
     {
         let mut bytes = [0; RECORD];
         for number in before as u64 + 1..=u64::MAX {
