@@ -61,7 +61,7 @@ pub fn tally(t: [u64; 3], accepted: bool, rows: usize) -> [u64; 3] {
 // The rows of the event with a number, one behind the other from the place on.
 pub fn put_rows(out: &mut [u8], place: usize, number: u32, m: Move, o: &Outcome) {
     if let Some(room) = out.get_mut(place..) {
-        for (row, s) in room.chunks_exact_mut(ROW).zip(o.rows.as_slice()) {
+        for (row, s) in room.chunks_exact_mut(ROW).zip(o.rows()) {
             row.copy_from_slice(&records::row(number, m.a, s.unwrap_or(0)));
         }
     }

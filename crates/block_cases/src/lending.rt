@@ -16,7 +16,7 @@ pub const BUFFER: usize = 3200;
 pub type Damages = cases::Damages<books::Damage, states::Damage>;
 
 // What is held after so many accepted events, the event, and the damage.
-#[derive(Drop)]
+#[derive(Clone, Copy)]
 pub struct Case {
     pub number: u32,
     pub held: Held,

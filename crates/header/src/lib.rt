@@ -4,10 +4,10 @@
 
 mod numbers;
 
+use arrayvec::ArrayVec;
 use noted::declared::{Argument, Symbol, Word};
 use noted::{Notes, Phase, Run};
 use numbers::number;
-use std::alloc::AllocError;
 
 // "0 to 4 variable names", "1 to 16 lines".
 const VARIABLE_LIMIT: usize = 4;
@@ -20,33 +20,28 @@ const VARS_WORDS: usize = 1;
 const SYM_WORDS: usize = 3;
 
 // The byte at a place, or the end of the text.
-pub fn step(notes: &mut Notes<'_>, at: usize, byte: Option<u8>) -> Result<(), AllocError> {
+pub fn step(notes: &mut Notes<'_>, at: usize, byte: Option<u8>) {
     match byte {
         Some(b' ') => space(notes, at),
         Some(b'\n') | None => line_end(notes, at, byte),
-        Some(_) => {
-            word_byte(notes, at);
-            Ok(())
-        }
+        Some(_) => word_byte(notes, at),
     }
 }
 
 // "a space too many is 2 at that space": before the first word, or behind another.
-fn space(notes: &mut Notes<'_>, at: usize) -> Result<(), AllocError> {
+fn space(notes: &mut Notes<'_>, at: usize) {
     let Run::Word(from) = notes.run else {
-        notes.fault(2, at);
-        return Ok(());
+        return notes.fault(2, at);
     };
-    word_end(notes, from, at)?;
+    word_end(notes, from, at);
     notes.run = Run::Gap(at);
-    Ok(())
 }
 
 // The last space of a line is one too many; "a missing one is placed at the LF, a missing LF at the book's end".
-fn line_end(notes: &mut Notes<'_>, at: usize, byte: Option<u8>) -> Result<(), AllocError> {
+fn line_end(notes: &mut Notes<'_>, at: usize, byte: Option<u8>) {
     match notes.run {
         Run::Nothing => {}
-        Run::Word(from) => word_end(notes, from, at)?,
+        Run::Word(from) => word_end(notes, from, at),
         Run::Gap(from) => notes.fault(2, from),
     }
     if notes.words < least_words(notes) || byte.is_none() {
@@ -58,7 +53,6 @@ fn line_end(notes: &mut Notes<'_>, at: usize, byte: Option<u8>) -> Result<(), Al
     if notes.least.is_some() {
         notes.phase = Phase::Over;
     }
-    Ok(())
 }
 
 fn least_words(notes: &Notes<'_>) -> usize {
@@ -77,7 +71,7 @@ fn word_byte(notes: &mut Notes<'_>, at: usize) {
 }
 
 // The word that ends before this place, by its number on its line.
-fn word_end(notes: &mut Notes<'_>, from: usize, at: usize) -> Result<(), AllocError> {
+fn word_end(notes: &mut Notes<'_>, from: usize, at: usize) {
     let word = notes.word(from, at);
     if notes.line == 0 {
         vars_word(notes, word)
@@ -87,30 +81,28 @@ fn word_end(notes: &mut Notes<'_>, from: usize, at: usize) -> Result<(), AllocEr
 }
 
 // "`vars`, then 0 to 4 variable names"; "the first excess word, of any form, carries 3".
-fn vars_word<'a>(notes: &mut Notes<'a>, word: Word<'a>) -> Result<(), AllocError> {
+fn vars_word<'a>(notes: &mut Notes<'a>, word: Word<'a>) {
     if notes.words == 1 {
         if !word.is(b"vars") {
             notes.fault(2, word.start);
         }
     } else if notes.words <= 1 + VARIABLE_LIMIT {
         name(notes, word);
-        notes.variables.push(word)?;
+        let _ = notes.variables.try_push(word);
     } else {
         notes.fault(3, word.start);
     }
-    Ok(())
 }
 
 // "`sym NAME KIND ARGS`. … ARGS are 0 to 4 words"
-fn sym_word<'a>(notes: &mut Notes<'a>, word: Word<'a>) -> Result<(), AllocError> {
+fn sym_word<'a>(notes: &mut Notes<'a>, word: Word<'a>) {
     match notes.words {
         1 => first_word(notes, word),
-        2 => symbol(notes, word)?,
+        2 => symbol(notes, word),
         3 => kind(notes, word),
-        4..=7 => argument(notes, word)?,
+        4..=7 => argument(notes, word),
         _ => notes.fault(3, word.start),
     }
-    Ok(())
 }
 
 // `match` behind a `sym` line; else `sym`, "for a seventeenth `sym`, that word".
@@ -130,15 +122,13 @@ fn first_word<'a>(notes: &mut Notes<'a>, word: Word<'a>) {
     }
 }
 
-fn symbol<'a>(notes: &mut Notes<'a>, word: Word<'a>) -> Result<(), AllocError> {
+fn symbol<'a>(notes: &mut Notes<'a>, word: Word<'a>) {
     name(notes, word);
-    let arguments = Vec::new(*notes.symbols.allocator());
-    notes.symbols.push(Symbol {
+    let _ = notes.symbols.try_push(Symbol {
         name: word,
         kind: 0,
-        arguments,
-    })?;
-    Ok(())
+        arguments: ArrayVec::new(),
+    });
 }
 
 // Form and size of a name, and "name already declared".
@@ -171,16 +161,15 @@ fn kind<'a>(notes: &mut Notes<'a>, word: Word<'a>) {
 }
 
 // "each a declared variable or `_`", or `=` and a number.
-fn argument<'a>(notes: &mut Notes<'a>, word: Word<'a>) -> Result<(), AllocError> {
+fn argument<'a>(notes: &mut Notes<'a>, word: Word<'a>) {
     let argument = match word.bytes {
         b"_" => Some(Argument::Ignored),
         [b'=', digits @ ..] => fixed(notes, word, digits),
         _ => variable(notes, word),
     };
     if let (Some(symbol), Some(argument)) = (notes.symbols.last_mut(), argument) {
-        symbol.arguments.push(argument)?;
+        let _ = symbol.arguments.try_push(argument);
     }
-    Ok(())
 }
 
 fn fixed<'a>(notes: &mut Notes<'a>, word: Word<'a>, digits: &[u8]) -> Option<Argument> {

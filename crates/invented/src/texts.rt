@@ -2,66 +2,75 @@
 // fit is left out, and the reader then refuses the text.
 ghost use Rattle.std.specs.Prelude.{◌≤◌, length};
 
-use std::alloc::{AllocError, Global};
+use arrayvec::ArrayVec;
 use trial::{Book, Node, Parameter, SYMBOLS, Symbol, VARIABLES};
 
 // The longest text.
 const TEXT_BYTES: usize = 4096;
+
+type Bytes = ArrayVec<u8, TEXT_BYTES>;
 
 // The names.
 const VARIABLE_NAMES: [u8; VARIABLES] = *b"abcd";
 
 const SYMBOL_NAMES: [u8; SYMBOLS] = *b"pqrs";
 
-pub fn text(alloc: Global, book: &Book) -> Result<Vec<u8>, AllocError> {
-    let mut text = Vec::new(alloc);
-    variables(&mut text, book.variables)?;
+pub fn text(book: &Book) -> Bytes {
+    let mut text = ArrayVec::new();
+    variables(&mut text, book.variables);
     for (name, symbol) in SYMBOL_NAMES.iter().zip(&book.symbols) {
         if let Some(symbol) = symbol {
-            line(&mut text, *name, symbol)?;
+            line(&mut text, *name, symbol);
         }
     }
-    text.extend_from_slice(b"match ")?;
-    pattern(&mut text, up_to(&book.nodes, book.root))?;
-    text.push(b'\n')?;
-    text.truncate(TEXT_BYTES);
-    Ok(text)
+    extend(&mut text, b"match ");
+    pattern(&mut text, up_to(&book.nodes, book.root));
+    push(&mut text, b'\n');
+    text
 }
 
-fn variables(text: &mut Vec<u8>, count: usize) -> Result<(), AllocError> {
-    text.extend_from_slice(b"vars")?;
-    for name in VARIABLE_NAMES.iter().take(count) {
-        text.push(b' ')?;
-        text.push(*name)?;
+// A byte more, and some: what does not fit is left out.
+fn push(text: &mut Bytes, byte: u8) {
+    let _ = text.try_push(byte);
+}
+
+fn extend(text: &mut Bytes, bytes: &[u8]) {
+    for byte in bytes {
+        push(text, *byte);
     }
-    text.push(b'\n')?;
-    Ok(())
+}
+
+fn variables(text: &mut Bytes, count: usize) {
+    extend(text, b"vars");
+    for name in VARIABLE_NAMES.iter().take(count) {
+        push(text, b' ');
+        push(text, *name);
+    }
+    push(text, b'\n');
 }
 
 // The line of a symbol.
-fn line(text: &mut Vec<u8>, name: u8, symbol: &Symbol) -> Result<(), AllocError> {
-    text.extend_from_slice(b"sym ")?;
-    text.push(name)?;
-    text.push(b' ')?;
-    text.push(digit(symbol.kind))?;
+fn line(text: &mut Bytes, name: u8, symbol: &Symbol) {
+    extend(text, b"sym ");
+    push(text, name);
+    push(text, b' ');
+    push(text, digit(symbol.kind));
     for parameter in symbol.parameters.iter().take(usize::from(symbol.count)) {
-        text.push(b' ')?;
-        written(text, *parameter)?;
+        push(text, b' ');
+        written(text, *parameter);
     }
-    text.push(b'\n')?;
-    Ok(())
+    push(text, b'\n');
 }
 
-fn written(text: &mut Vec<u8>, parameter: Parameter) -> Result<(), AllocError> {
+fn written(text: &mut Bytes, parameter: Parameter) {
     match parameter {
-        Parameter::Ignored => text.push(b'_')?,
-        Parameter::Variable(v) => text.push(VARIABLE_NAMES[v % VARIABLES])?,
+        Parameter::Ignored => push(text, b'_'),
+        Parameter::Variable(v) => push(text, VARIABLE_NAMES[v % VARIABLES]),
         Parameter::Fixed(n) => {
-            text.push(b'=')?;
-            text.push(digit(n))?;
+            push(text, b'=');
+            push(text, digit(n));
         }
     }
-    Ok(())
 }
 
 fn digit(n: u8) -> u8 {
@@ -80,31 +89,30 @@ fn up_to(nodes: &[Node], k: usize) -> &[Node]
 }
 
 // The last of the nodes.
-fn pattern(text: &mut Vec<u8>, nodes: &[Node]) -> Result<(), AllocError> {
+fn pattern(text: &mut Bytes, nodes: &[Node]) {
     let Some((node, before)) = nodes.split_last() else {
-        return Ok(());
+        return;
     };
-    text.push(b'(')?;
+    push(text, b'(');
     match *node {
-        Node::Symbol(s) => text.push(SYMBOL_NAMES[s % SYMBOLS])?,
+        Node::Symbol(s) => push(text, SYMBOL_NAMES[s % SYMBOLS]),
         Node::Sequence(a, b) => {
-            pattern(text, up_to(before, a))?;
-            text.push(b' ')?;
-            pattern(text, up_to(before, b))?;
+            pattern(text, up_to(before, a));
+            push(text, b' ');
+            pattern(text, up_to(before, b));
         }
         Node::Alternation(a, b) => {
-            pattern(text, up_to(before, a))?;
-            text.push(b'|')?;
-            pattern(text, up_to(before, b))?;
+            pattern(text, up_to(before, a));
+            push(text, b'|');
+            pattern(text, up_to(before, b));
         }
-        Node::Star(a) | Node::Plus(a) | Node::Optional(a) => pattern(text, up_to(before, a))?,
+        Node::Star(a) | Node::Plus(a) | Node::Optional(a) => pattern(text, up_to(before, a)),
     }
-    text.push(b')')?;
+    push(text, b')');
     match *node {
-        Node::Star(_) => text.push(b'*')?,
-        Node::Plus(_) => text.push(b'+')?,
-        Node::Optional(_) => text.push(b'?')?,
+        Node::Star(_) => push(text, b'*'),
+        Node::Plus(_) => push(text, b'+'),
+        Node::Optional(_) => push(text, b'?'),
         _ => {}
     }
-    Ok(())
 }

@@ -15,7 +15,7 @@ use std::io;
 
 const CASES: u32 = 40000;
 
-// How the calls were answered; then rows, events with several, states that hold fewer disjuncts, and differences.
+// How the calls were to be answered; then rows, events with several, states that hold fewer disjuncts, and differences.
 #[derive(Clone, Copy, Default)]
 struct Score {
     answered: Answered,
@@ -96,8 +96,9 @@ fn one(seed: u64, score: &mut Score) {
         Some(_) => left.refuse(),
         None => left.accept(&c, m, &o, s.place),
     }
+    let answer = refusal.unwrap_or(0);
     let record = lending::record(seed, &c);
-    let answer = call(record.bytes(), s, &mut words);
+    let answered = call(record.bytes(), s, &mut words);
     score.answered.count(answer);
     score.rows = score.rows.saturating_add(amounts::short(left.count as u64));
     if 1 < left.count {
@@ -106,7 +107,7 @@ fn one(seed: u64, score: &mut Score) {
     if refusal.is_none() && o.held.entries().len() < c.held.entries().len() {
         score.fewer = amounts::up(score.fewer);
     }
-    if answer != refusal.unwrap_or(0) || words != left {
+    if answered != answer || words != left {
         score.differences = amounts::up(score.differences);
     }
 }

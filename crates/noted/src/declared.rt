@@ -1,28 +1,33 @@
 // The names that were declared, as parts of the text, with what was declared of them. For the second reader.
+use arrayvec::ArrayVec;
 
 // "1 to 12 bytes"
 const NAME_BYTES: usize = 12;
 
+// "ARGS are 0 to 4 words"
+pub const ARGUMENTS: usize = 4;
+
 // A word of the text, and where it stands.
-#[derive(Clone, Copy)]
+#[derive(Clone, Copy, Default)]
 pub struct Word<'a> {
     pub start: usize,
     pub bytes: &'a [u8],
 }
 
 // What a symbol's argument must be: anything, what a variable is, or a fixed number.
-#[derive(Clone, Copy, PartialEq, Eq)]
+#[derive(Clone, Copy, PartialEq, Eq, Default)]
 pub enum Argument {
+    #[default]
     Ignored,
     Variable(usize),
     Fixed(u32),
 }
 
-#[derive(Drop)]
+#[derive(Drop, Default)]
 pub struct Symbol<'a> {
     pub name: Word<'a>,
     pub kind: u8,
-    pub arguments: Vec<Argument>,
+    pub arguments: ArrayVec<Argument, ARGUMENTS>,
 }
 
 // A byte that may stand in a name behind the first.
@@ -54,7 +59,7 @@ impl Symbol<'_> {
     // The variables that it binds, a bit to each.
     pub fn binds(&self) -> u8 {
         let mut binds = 0;
-        for argument in &self.arguments {
+        for argument in self.arguments.as_slice() {
             if let Argument::Variable(v) = argument {
                 binds |= 1 << (v % 8);
             }

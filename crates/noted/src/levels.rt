@@ -1,6 +1,6 @@
 // What every word of the pattern has, as far as it is read: a few bits for each depth of parentheses, for 7 and 8. For the second
 // reader.
-use std::alloc::{AllocError, Global};
+use arrayvec::ArrayVec;
 use std::mem;
 
 // What every word of a part of the pattern has: a bit to each variable where it binds it, and a fifth where it is not empty. All of them.
@@ -8,8 +8,11 @@ pub const NOT_EMPTY: u8 = 16;
 
 pub const ALL: u8 = 31;
 
+// "at most 16 parentheses open together"
+pub const OPEN_LIMIT: usize = 16;
+
 // One depth of parentheses.
-#[derive(Clone, Copy)]
+#[derive(Clone, Copy, Default)]
 struct Level {
     // What some word of the sequences before this one lacks.
     lacked: u8,
@@ -39,14 +42,14 @@ impl Level {
 #[derive(Drop)]
 pub struct Levels {
     inner: Level,
-    around: Vec<Level>,
+    around: ArrayVec<Level, OPEN_LIMIT>,
 }
 
 impl Levels {
-    pub fn new(alloc: Global) -> Levels {
+    pub fn new() -> Levels {
         Levels {
             inner: Level::begin(0),
-            around: Vec::new(alloc),
+            around: ArrayVec::new(),
         }
     }
 
@@ -81,10 +84,10 @@ impl Levels {
         self.inner = Level::begin(self.inner.lacked | ALL ^ self.inner.sequence());
     }
 
-    pub fn open(&mut self) -> Result<(), AllocError> {
-        self.around
-            .push(mem::replace(&mut self.inner, Level::begin(0)))?;
-        Ok(())
+    // One depth more. What is around it is dropped where it has no place: the text has a fault then.
+    pub fn open(&mut self) {
+        let around = mem::replace(&mut self.inner, Level::begin(0));
+        let _ = self.around.try_push(around);
     }
 
     // The alternation in parentheses is an item of what is around it: whether one was open.

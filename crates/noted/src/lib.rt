@@ -5,9 +5,14 @@
 pub mod declared;
 pub mod levels;
 
+use arrayvec::ArrayVec;
 use declared::{Symbol, Word};
 use levels::Levels;
-use std::alloc::Global;
+
+// "0 to 4 variable names", "1 to 16 lines"; and one symbol more, since a seventeenth line is read to its end behind its fault.
+pub const VARIABLE_PLACES: usize = 4;
+
+pub const SYMBOL_PLACES: usize = 17;
 
 // Where the scan is: on the lines before the pattern, in the pattern, behind its LF, or done.
 #[derive(Clone, Copy, PartialEq, Eq)]
@@ -43,8 +48,8 @@ pub struct Notes<'a> {
     pub line: usize,
     pub words: usize,
     pub run: Run,
-    pub variables: Vec<Word<'a>>,
-    pub symbols: Vec<Symbol<'a>>,
+    pub variables: ArrayVec<Word<'a>, VARIABLE_PLACES>,
+    pub symbols: ArrayVec<Symbol<'a>, SYMBOL_PLACES>,
     // Of the pattern: the first token's place, the occurrences, and what its words have.
     pub first: Option<usize>,
     pub occurrences: usize,
@@ -53,7 +58,7 @@ pub struct Notes<'a> {
 
 impl<'a> Notes<'a> {
     // Before the first byte.
-    pub fn new(alloc: Global, text: &'a [u8]) -> Notes<'a> {
+    pub fn new(text: &'a [u8]) -> Notes<'a> {
         Notes {
             text,
             phase: Phase::Lines,
@@ -61,11 +66,11 @@ impl<'a> Notes<'a> {
             line: 0,
             words: 0,
             run: Run::Nothing,
-            variables: Vec::new(alloc),
-            symbols: Vec::new(alloc),
+            variables: ArrayVec::new(),
+            symbols: ArrayVec::new(),
             first: None,
             occurrences: 0,
-            levels: Levels::new(alloc),
+            levels: Levels::new(),
         }
     }
 

@@ -2,8 +2,6 @@
 // and one `d` have `s` free, so that values alone decide the order.
 ghost use Rattle.std.specs.Prelude.{◌≤◌, length};
 
-use arrayvec::ArrayVec;
-
 // "at most 128 disjuncts", "at most 6 excluded values"
 pub const PLACES: usize = 128;
 
@@ -102,34 +100,41 @@ impl Default for Entry {
     }
 }
 
-#[derive(Drop)]
+// What is held: so many of the entries.
+#[derive(Clone, Copy)]
 pub struct Held {
-    entries: ArrayVec<Entry, ROOM>,
+    count: usize,
+    entries: [Entry; ROOM],
 }
 
 impl Held {
     pub fn none() -> Held {
         Held {
-            entries: ArrayVec::new(),
+            count: 0,
+            entries: [Entry::default(); ROOM],
         }
     }
 
     pub fn entries(&self) -> &[Entry] {
-        self.entries.as_slice()
+        &self.entries[..self.count.min(ROOM)]
     }
 
     // An entry more, behind the others.
     pub fn push(&mut self, e: Entry) {
-        let _ = self.entries.try_push(e);
+        if self.count < ROOM {
+            self.entries[self.count] = e;
+            self.count += 1;
+        }
     }
 
     // An entry more, behind those that precede it.
     pub fn insert(&mut self, e: Entry) {
-        let held = self.entries.as_slice();
-        let at = held
-            .iter()
-            .position(|x| !x.precedes(&e))
-            .unwrap_or(held.len());
-        let _ = self.entries.try_insert(at, e);
+        let n = self.count;
+        if n < ROOM {
+            let at = (self.entries().iter().position(|x| !x.precedes(&e))).unwrap_or(n);
+            self.entries[n] = e;
+            self.entries[at.min(n)..n + 1].rotate_right(1);
+            self.count = n + 1;
+        }
     }
 }

@@ -2,7 +2,6 @@
 // which says what a call leaves, and for `lent_damage`.
 use crate::entries::{Entry, Excluded, Held, PLACES, Second};
 use crate::events::Symbol;
-use arrayvec::ArrayVec;
 
 // The event, by the symbol that matches it, if there is one.
 #[derive(Clone, Copy)]
@@ -12,22 +11,35 @@ pub struct Move {
     pub b: u32,
 }
 
-// The rows have the event's `d`, and each its value of `s`, none where it would leave `s` free.
-#[derive(Drop)]
+// The rows, so many of the places, have the event's `d`, and each its value of `s`, none where it would leave `s` free.
+#[derive(Clone, Copy)]
 pub struct Outcome {
     pub room: bool,
-    pub rows: ArrayVec<Option<u32>, PLACES>,
+    count: usize,
+    rows: [Option<u32>; PLACES],
     pub held: Held,
     meets: bool,
 }
 
 impl Outcome {
+    pub fn rows(&self) -> &[Option<u32>] {
+        &self.rows[..self.count.min(PLACES)]
+    }
+
     pub fn leaves_free(&self) -> bool {
-        self.rows.as_slice().iter().any(|s| s.is_none())
+        self.rows().iter().any(|s| s.is_none())
     }
 
     pub fn row_count(&self) -> usize {
-        self.rows.as_slice().len()
+        self.rows().len()
+    }
+
+    // A row more, behind the others.
+    fn list(&mut self, s: Option<u32>) {
+        if self.count < PLACES {
+            self.rows[self.count] = s;
+            self.count += 1;
+        }
     }
 
     // The step sets: `fill` meets an entry of position 1, `close` one of position 2, which gives a row.
@@ -37,9 +49,7 @@ impl Outcome {
         }
         match (m.symbol, e.position) {
             (Some(Symbol::Fill), 1) => self.meets |= e.s.admits(m.b),
-            (Some(Symbol::Close), 2) => {
-                let _ = self.rows.try_push(e.s.value());
-            }
+            (Some(Symbol::Close), 2) => self.list(e.s.value()),
             _ => {}
         }
     }
@@ -95,7 +105,8 @@ impl Outcome {
 pub fn after(h: &Held, m: Move) -> Outcome {
     let mut o = Outcome {
         room: true,
-        rows: ArrayVec::new(),
+        count: 0,
+        rows: [None; PLACES],
         held: Held::none(),
         meets: false,
     };

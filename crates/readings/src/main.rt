@@ -2,41 +2,41 @@
 // A case: length (two bytes, low first), number (one byte), place (two bytes, low first), then the text.
 #![tactic(auto)]
 
-use std::alloc::Global;
 use std::io::Read;
 use std::{fs, io};
 
 // More than there are cases.
 const MOST_CASES: u32 = 10000;
 
+// What is lent for a text: a length of two bytes is below it.
+const BUFFER: usize = 65536;
+
 // A text, with the number of the answer that it must get, and the place beside it.
-#[derive(Drop)]
-struct Case {
+#[derive(Clone, Copy)]
+struct Case<'a> {
     number: u8,
     place: u16,
-    text: Vec<u8>,
+    text: &'a [u8],
 }
 
-impl Case {
-    // The next case of a file, as far as it goes, or none at its end.
-    fn read<R: Read>(alloc: Global, file: &mut R) -> io::Result<Option<Case>> {
+impl<'a> Case<'a> {
+    // The next case of a file, as far as it goes, its text in the lent buffer, or none at the file's end.
+    fn read<R: Read>(file: &mut R, buffer: &'a mut [u8; BUFFER]) -> io::Result<Option<Case<'a>>> {
         let mut head = [0u8; 5];
         if input::fill(file, &mut head)? < head.len() {
             return Ok(None);
         }
         let length = u16::from_le_bytes([head[0], head[1]]);
-        let mut text = vec![in alloc; 0u8; usize::from(length)]?;
-        let there = input::fill(file, text.as_mut_slice())?;
-        text.truncate(there);
+        let there = input::fill(file, &mut buffer[..usize::from(length)])?;
         Ok(Some(Case {
             number: head[2],
             place: u16::from_le_bytes([head[3], head[4]]),
-            text,
+            text: &buffer[..there],
         }))
     }
 
     fn is_right(&self) -> bool {
-        let answer = reader::read(&self.text).answer;
+        let answer = reader::read(self.text).answer;
         book::number_of(answer) == usize::from(self.number)
             && book::place_of(answer) == usize::from(self.place)
     }
@@ -49,7 +49,7 @@ struct Score {
 }
 
 impl Score {
-    fn count(&mut self, rt: &impl Print, case: &Case) -> io::Result<()> {
+    fn count(&mut self, rt: &impl Print, case: &Case<'_>) -> io::Result<()> {
         if case.is_right() {
             self.right = self.right.saturating_add(1);
             return Ok(());
@@ -62,9 +62,10 @@ impl Score {
 
 fn main(rt: HostRuntime) -> io::Result<()> {
     let mut file = fs::open(&rt, "cases")?;
+    let mut buffer = [0u8; BUFFER];
     let mut score = Score { right: 0, wrong: 0 };
     for _ in 0..MOST_CASES {
-        let Some(case) = Case::read(rt.alloc(), &mut file)? else {
+        let Some(case) = Case::read(&mut file, &mut buffer)? else {
             break;
         };
         score.count(&rt, &case)?;

@@ -5,34 +5,30 @@
 mod tokens;
 
 use noted::{Notes, Phase};
-use std::alloc::{AllocError, Global};
 
 // "at most 4,096 bytes"
 const TEXT_BYTES: usize = 4096;
 
 // What is noted of a text, read byte by byte to its end: where no fault is, it is accepted.
-pub fn read(alloc: Global, text: &[u8]) -> Result<Notes<'_>, AllocError> {
-    let mut notes = Notes::new(alloc, text);
+pub fn read(text: &[u8]) -> Notes<'_> {
+    let mut notes = Notes::new(text);
     if TEXT_BYTES < text.len() {
         notes.fault(1, TEXT_BYTES);
-        return Ok(notes);
+        return notes;
     }
     for (at, b) in text.iter().enumerate() {
-        step(&mut notes, at, Some(*b))?;
+        step(&mut notes, at, Some(*b));
     }
-    step(&mut notes, text.len(), None)?;
-    Ok(notes)
+    step(&mut notes, text.len(), None);
+    notes
 }
 
-fn step(notes: &mut Notes<'_>, at: usize, byte: Option<u8>) -> Result<(), AllocError> {
+fn step(notes: &mut Notes<'_>, at: usize, byte: Option<u8>) {
     match notes.phase {
         Phase::Lines => header::step(notes, at, byte),
         Phase::Pattern => tokens::step(notes, at, byte),
-        Phase::Behind => {
-            behind(notes, at, byte);
-            Ok(())
-        }
-        Phase::Over => Ok(()),
+        Phase::Behind => behind(notes, at, byte),
+        Phase::Over => {}
     }
 }
 

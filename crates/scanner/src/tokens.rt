@@ -1,39 +1,34 @@
 // The pattern, byte by byte: a name as long as it goes, or a sign; how many parentheses are open, and whether an item stands before, in
 // place of recursion. For the second reader.
 use noted::declared::{self, Word};
-use noted::{Notes, Phase, Run, levels};
-use std::alloc::AllocError;
+use noted::levels::{self, OPEN_LIMIT};
+use noted::{Notes, Phase, Run};
 
-// "At most 31 symbol occurrences, at most 16 parentheses open together".
+// "At most 31 symbol occurrences".
 const OCCURRENCE_LIMIT: usize = 31;
 
-const OPEN_LIMIT: usize = 16;
-
-pub fn step(notes: &mut Notes<'_>, at: usize, byte: Option<u8>) -> Result<(), AllocError> {
+pub fn step(notes: &mut Notes<'_>, at: usize, byte: Option<u8>) {
     if let Run::Word(from) = notes.run {
         if byte.is_some_and(declared::is_inner) {
-            return Ok(());
+            return;
         }
         name_end(notes, notes.word(from, at));
     }
     match byte {
-        Some(b' ') => Ok(()),
-        Some(b'\n') | None => {
-            line_end(notes, at, byte);
-            Ok(())
-        }
+        Some(b' ') => {}
+        Some(b'\n') | None => line_end(notes, at, byte),
         Some(b) => token(notes, at, b),
     }
 }
 
 // 7 and 8 are placed at the first token.
-fn token(notes: &mut Notes<'_>, at: usize, b: u8) -> Result<(), AllocError> {
+fn token(notes: &mut Notes<'_>, at: usize, b: u8) {
     notes.first = notes.first.or(Some(at));
     if b.is_ascii_lowercase() {
         notes.run = Run::Word(at);
-        return Ok(());
+    } else {
+        sign(notes, at, b);
     }
-    sign(notes, at, b)
 }
 
 // "a variable's in the pattern, is 5": only symbols are looked at.
@@ -52,19 +47,18 @@ fn name_end<'a>(notes: &mut Notes<'a>, name: Word<'a>) {
 }
 
 // Every sign but `(` wants an item before it, as does the end.
-fn sign(notes: &mut Notes<'_>, at: usize, b: u8) -> Result<(), AllocError> {
+fn sign(notes: &mut Notes<'_>, at: usize, b: u8) {
     if b != b'(' && !notes.levels.stands() {
         notes.fault(6, at);
     }
     match b {
-        b'(' => open(notes, at)?,
+        b'(' => open(notes, at),
         b')' => close(notes, at),
         b'|' => notes.levels.divide(),
         b'*' | b'?' => notes.levels.optional(),
         b'+' => {}
         _ => notes.fault(6, at),
     }
-    Ok(())
 }
 
 // "a missing one is placed at the LF, a missing LF at the book's end"
@@ -82,11 +76,11 @@ fn line_end(notes: &mut Notes<'_>, at: usize, byte: Option<u8>) {
     };
 }
 
-fn open(notes: &mut Notes<'_>, at: usize) -> Result<(), AllocError> {
+fn open(notes: &mut Notes<'_>, at: usize) {
     if notes.levels.depth() == OPEN_LIMIT {
         notes.fault(3, at);
     }
-    notes.levels.open()
+    notes.levels.open();
 }
 
 fn close(notes: &mut Notes<'_>, at: usize) {

@@ -6,7 +6,7 @@ use trial::BUFFER_BYTES;
 // "13 for a row buffer too short", "14 for a set of no books or more than 8", and 9 for a book that is not wholly lent.
 const UNSOUND: usize = 9;
 
-const NO_SPACE: usize = 13;
+pub const NO_SPACE: usize = 13;
 
 pub const BAD_COUNT: usize = 14;
 
@@ -39,6 +39,11 @@ pub fn answered(expected: Expected) -> Answered {
             rows: 0,
         },
     }
+}
+
+// Whether the rows of each book by themselves have space.
+pub fn apart(expected: Expected) -> bool {
+    matches!(expected, Ok(_) | Err(Refusal::NoSpaceTogether))
 }
 
 // The plain call on one book, whose state becomes the next: how many rows.

@@ -36,10 +36,10 @@ impl Runs {
 
     // The events of a set in their order, from fresh states on.
     pub fn run(&mut self, set: &mut Set) {
-        let count = set.trials.len();
+        let count = set.trials().len();
         self.start(count);
         for i in 0..EVENTS {
-            let Some(event) = set.trials.first().and_then(|t| t.event(i)).copied() else {
+            let Some(event) = set.trials().first().and_then(|t| t.event(i)).copied() else {
                 return;
             };
             self.refusals(&event, set.books.as_flattened(), count, i);
@@ -84,11 +84,11 @@ impl Runs {
     // Event number i of the run, and what is noted of it.
     fn event(&mut self, event: &Event, set: &mut Set, i: usize) {
         let mut rows = [BLANK; BUFFER_BYTES];
-        let call = Call::of(event, set.books.as_flattened(), set.trials.len());
+        let call = Call::of(event, set.books.as_flattened(), set.trials().len());
         let answered = self.called(&call, &mut rows);
         let listed = listed(&rows, event.place, answered.rows);
         self.score.hold(listed.len() == answered.rows);
-        self.note(set.trials.as_mut_slice(), i, answered.answer == 0, listed);
+        self.note(set.trials_mut(), i, answered.answer == 0, listed);
     }
 
     // A call, held to the plain calls: its answer, rows, states and tally, and the bytes around the rows.

@@ -1,6 +1,5 @@
 // The books of a random set: those of trials one after another whose texts are accepted, and which can have the events of the first. For the runs of a set.
 use lent_set::{BOOK_WORDS, BOOKS};
-use std::alloc::{AllocError, Global};
 use trial::{Event, Trial};
 
 // How many trials are looked through for a set, and how far apart the first trials of two sets are. Trials 2m and 2m + 1 have the same book: in some sets
@@ -14,58 +13,68 @@ const SETS: u64 = 65536;
 // The values of a book in which exclusions gather.
 const VALUES: usize = 10;
 
-// The trials of the books, all with the events of the first; and the words of the books, then zeros.
-#[derive(Drop)]
+// So many books: their trials, all with the events of the first, and behind them any; and the words of the books, then zeros.
+#[derive(Clone, Copy)]
 pub struct Set {
-    pub trials: Vec<Trial>,
+    count: usize,
+    trials: [Trial; BOOKS],
     pub books: [[u32; BOOK_WORDS]; BOOKS],
 }
 
 impl Set {
     // Set number i.
-    pub fn chosen(alloc: Global, i: u64) -> Result<Set, AllocError> {
+    pub fn chosen(i: u64) -> Set {
         let most = (i % (BOOKS as u64)) as usize + 1;
         let mut first: u64 = 0;
         let mut set = Set {
-            trials: Vec::new(alloc),
+            count: 0,
+            trials: [invented::trial(i); BOOKS],
             books: [[0; BOOK_WORDS]; BOOKS],
         };
         for c in 0..CANDIDATES {
-            if set.trials.len() == most {
+            if set.count == most {
                 break;
             }
             let j = candidate(i, c);
-            if set.trials.is_empty() {
+            if set.count == 0 {
                 first = j;
             }
             if set.wants(i, j) {
-                set.add(alloc, j, first)?;
+                set.add(j, first);
             }
         }
-        Ok(set)
+        set
+    }
+
+    pub fn trials(&self) -> &[Trial] {
+        &self.trials[..self.count.min(BOOKS)]
+    }
+
+    pub fn trials_mut(&mut self) -> &mut [Trial] {
+        &mut self.trials[..self.count.min(BOOKS)]
     }
 
     // In every second set exclusions gather, so that some events have no room.
     fn wants(&self, i: u64, j: u64) -> bool {
-        !self.trials.is_empty() || i % 2 == 0 || invented::gathering(j)
+        0 < self.count || i % 2 == 0 || invented::gathering(j)
     }
 
     // The book of trial number j, with the events of trial number first, if it can be: its values are up to those of the first book.
-    fn add(&mut self, alloc: Global, j: u64, first: u64) -> Result<(), AllocError> {
+    fn add(&mut self, j: u64, first: u64) {
         let mut trial = invented::trial_with(j, first);
-        let largest = self.trials.first().map_or(0, |t| t.book.largest);
+        let largest = self.trials().first().map_or(0, |t| t.book.largest);
         if trial.book.variables != 0 && trial.book.largest < largest {
-            return Ok(());
+            return;
         }
         narrow(first, &mut trial.events);
         invented::records(first, &mut trial.events);
-        let text = invented::text(alloc, &trial.book)?;
-        let k = self.trials.len() % BOOKS;
+        let text = invented::text(&trial.book);
+        let k = self.count % BOOKS;
         if is_read(&text, &mut self.books[k]) {
             trial.number = k as u8;
-            self.trials.push(trial)?;
+            self.trials[k] = trial;
+            self.count = k + 1;
         }
-        Ok(())
     }
 }
 

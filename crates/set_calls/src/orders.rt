@@ -11,7 +11,7 @@ const APART: usize = 7;
 impl Set {
     // The rows of each book after each event that the set accepted.
     pub fn list(&mut self) {
-        for trial in self.trials.iter_mut() {
+        for trial in self.trials_mut() {
             second::rows(trial);
         }
     }
@@ -20,14 +20,14 @@ impl Set {
     pub fn reorder(&mut self) {
         for k in 0..EXCHANGES {
             let at = k * APART % (EVENTS - 1);
-            if independent(self.trials.as_slice(), at) {
+            if independent(self.trials(), at) {
                 self.exchange(at);
             }
         }
     }
 
     fn exchange(&mut self, at: usize) {
-        for trial in self.trials.iter_mut() {
+        for trial in self.trials_mut() {
             trial.exchange(at);
         }
     }

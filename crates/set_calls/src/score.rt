@@ -1,5 +1,5 @@
 // What was compared. For the program `set_trials`, which prints it.
-use crate::alone::{Expected, Refusal};
+use crate::alone::{self, Expected, NO_SPACE};
 use crate::call::Answered;
 
 // The answers to an event on a set: 0, and 9 to 14.
@@ -44,10 +44,10 @@ impl Score {
 
     // A call, which is to have answered as expected.
     pub fn call(&mut self, expected: Expected, answered: Answered) {
-        if let Some(n) = self.answered.get_mut(answered.answer) {
+        if let Some(n) = self.answered.get_mut(answered.answer % ANSWERS) {
             *n = n.saturating_add(1);
         }
-        if let Err(Refusal::NoSpaceTogether) = expected {
+        if answered.answer == NO_SPACE && alone::apart(expected) {
             self.together = self.together.saturating_add(1);
         }
         self.rows = self.rows.saturating_add(answered.rows);

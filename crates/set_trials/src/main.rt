@@ -17,8 +17,8 @@ const BAD_COUNT: usize = 14;
 fn main(rt: HostRuntime) -> io::Result<()> {
     let mut runs = Runs::none();
     for i in 0..SETS {
-        let mut set = Set::chosen(rt.alloc(), i)?;
-        if !set.trials.is_empty() {
+        let mut set = Set::chosen(i);
+        if !set.trials().is_empty() {
             compared(&mut set, &mut runs);
         }
     }
@@ -33,7 +33,7 @@ fn compared(set: &mut Set, runs: &mut Runs) {
     runs.run(set);
     set.reorder();
     runs.run(set);
-    runs.score.set(set.trials.len());
+    runs.score.set(set.trials().len());
 }
 
 fn report(rt: &impl Print, score: &Score) -> io::Result<()> {

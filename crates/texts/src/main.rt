@@ -7,7 +7,7 @@ use noted::Notes;
 use noted::declared::{self, Argument};
 use std::{fmt, io};
 use table::{Parameter, Symbol};
-use variants::{BASES, KINDS, Kind};
+use variants::{BASES, KINDS, Kind, Text};
 
 // Long texts have so many bytes, less one.
 const SHORTEST: usize = 4085;
@@ -111,73 +111,64 @@ fn main(rt: HostRuntime) -> io::Result<()> {
 }
 
 // Texts about as long as a text may be.
-fn longs(rt: &(impl Print + AllocGlobal), score: &mut Score) -> io::Result<()> {
+fn longs(rt: &impl Print, score: &mut Score) -> io::Result<()> {
+    let mut text = Text::new();
     for size in SHORTEST..LONGEST {
-        let text = variants::spaces(rt.alloc(), size)?;
-        compared(rt, &text, score)?;
+        variants::spaces(size, &mut text);
+        compared(rt, text.as_slice(), score)?;
     }
     Ok(())
 }
 
 // Numbers with zeros.
-fn numbers(rt: &(impl Print + AllocGlobal), score: &mut Score) -> io::Result<()> {
+fn numbers(rt: &impl Print, score: &mut Score) -> io::Result<()> {
+    let mut text = Text::new();
     for count in (0..FEW_ZEROS).chain(MANY_ZEROS..MOST_ZEROS) {
-        let text = variants::zeros(rt.alloc(), count)?;
-        compared(rt, &text, score)?;
+        variants::zeros(count, &mut text);
+        compared(rt, text.as_slice(), score)?;
     }
     Ok(())
 }
 
 // Every edit of one base text.
-fn singles(rt: &(impl Print + AllocGlobal), text: &[u8], score: &mut Score) -> io::Result<()> {
+fn singles(rt: &impl Print, text: &[u8], score: &mut Score) -> io::Result<()> {
+    let mut edited = Text::new();
     for place in 0..=text.len() {
-        edits(rt, text, place, score)?;
+        for n in 0..KINDS {
+            variants::edited(text, Kind::numbered(n), place, &mut edited);
+            compared(rt, edited.as_slice(), score)?;
+        }
     }
     Ok(())
 }
 
-fn edits(
-    rt: &(impl Print + AllocGlobal),
-    text: &[u8],
-    place: usize,
-    score: &mut Score,
-) -> io::Result<()> {
-    for n in 0..KINDS {
-        let edited = variants::edited(rt.alloc(), text, Kind::numbered(n), place)?;
-        compared(rt, &edited, score)?;
-    }
-    Ok(())
-}
-
-fn pairs(rt: &(impl Print + AllocGlobal), score: &mut Score) -> io::Result<()> {
+fn pairs(rt: &impl Print, score: &mut Score) -> io::Result<()> {
+    let mut once = Text::new();
+    let mut twice = Text::new();
     for i in 0..PAIRS {
-        pair(rt, i, score)?;
+        let base = BASES[draws::below(i, 0, BASES.len() as u64) as usize];
+        drawn(i, 1, base.as_bytes(), &mut once);
+        drawn(i, 4, once.as_slice(), &mut twice);
+        compared(rt, twice.as_slice(), score)?;
     }
     Ok(())
-}
-
-fn pair(rt: &(impl Print + AllocGlobal), i: u64, score: &mut Score) -> io::Result<()> {
-    let base = BASES[draws::below(i, 0, BASES.len() as u64) as usize];
-    let once = drawn(rt, i, 1, base.as_bytes())?;
-    let twice = drawn(rt, i, 4, &once)?;
-    compared(rt, &twice, score)
 }
 
 // The text with an edit, the first or the second of pair number i, by three draws from k on: in the pattern more often than before it.
-fn drawn(rt: &impl AllocGlobal, i: u64, k: u32, text: &[u8]) -> io::Result<Vec<u8>> {
+fn drawn(i: u64, k: u32, text: &[u8], out: &mut Text) {
     let k = u64::from(k);
     let size = text.len() as u64;
     let kind = draws::below(i, k, KINDS as u64) as usize;
     let from = draws::below(i, k + 1, size);
     let place = draws::below(i, k + 2, size);
     let at = from.max(place) as usize;
-    Ok(variants::edited(rt.alloc(), text, Kind::numbered(kind), at)?)
+    variants::edited(text, Kind::numbered(kind), at, out);
 }
 
 // One text goes to both readers, and one of its names is asked for.
-fn compared(rt: &(impl Print + AllocGlobal), text: &[u8], score: &mut Score) -> io::Result<()> {
+fn compared(rt: &impl Print, text: &[u8], score: &mut Score) -> io::Result<()> {
     let reading = reader::read(text);
-    let notes = scanner::read(rt.alloc(), text)?;
+    let notes = scanner::read(text);
     let first = Verdict::of(reading.answer);
     let second = Verdict::second(&notes);
     score.count(first.number);
@@ -202,22 +193,27 @@ fn named(text: &[u8], notes: &Notes<'_>, number: usize) -> bool {
     place.start == start && place.size == bytes.len() && name == bytes
 }
 
-// Whether what the book of an accepted text has of each symbol is what the second reader noted of its name.
+// Whether what the book has of each symbol is what the second reader noted of its name; a refused text gives the empty book.
 fn books_alike(book: &Book, notes: &Notes<'_>) -> bool {
-    notes.least.is_some()
-        || book.variables == notes.variables.len()
-            && book.symbols == notes.symbols.len()
-            && symbols_alike(&book.table, &notes.symbols)
+    let (variables, symbols): (usize, &[declared::Symbol<'_>]) = match notes.least {
+        None => (notes.variables.len(), notes.symbols.as_slice()),
+        Some(_) => (0, &[]),
+    };
+    book.variables == variables
+        && book.symbols == symbols.len()
+        && symbols_alike(&book.table, symbols)
 }
 
+// Places behind the last symbol are as a symbol of which nothing was noted.
 fn symbols_alike(table: &[Symbol], symbols: &[declared::Symbol<'_>]) -> bool {
-    table.iter().zip(symbols).all(|(y, s)| symbol_alike(y, s))
+    let nothing = declared::Symbol::default();
+    table.iter().enumerate().all(|(i, y)| symbol_alike(y, symbols.get(i).unwrap_or(&nothing)))
 }
 
 fn symbol_alike(y: &Symbol, s: &declared::Symbol<'_>) -> bool {
     y.kind == u32::from(s.kind)
         && y.count == s.arguments.len()
-        && parameters_alike(&y.parameters, &s.arguments)
+        && parameters_alike(&y.parameters, s.arguments.as_slice())
 }
 
 // Those behind the last are as those that are ignored.

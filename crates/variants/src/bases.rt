@@ -1,7 +1,12 @@
 // The books whose texts are edited: document 01's two, and others that meet its limits, use all of its signs, have names like its own
 // words, or fixed numbers of all sizes beside the other arguments, and one alone; and the texts of a number with many zeros. For the
 // program `texts`.
-use std::alloc::{AllocError, Global};
+use arrayvec::ArrayVec;
+
+// The bytes that a text has places for: as many as the longest has, more than any base text after its edits.
+pub const ROOM: usize = 4105;
+
+pub type Text = ArrayVec<u8, ROOM>;
 
 pub const BASES: [&str; 11] = [
     "vars d s\nsym load 1 d s\nsym drop 2 d\nsym clean 3 d\nmatch load drop+\n",
@@ -17,19 +22,32 @@ pub const BASES: [&str; 11] = [
     "vars\nsym a 1 =3\nmatch a\n",
 ];
 
+// Bytes behind those of a text, as far as they have places.
+pub fn append(text: &mut Text, bytes: &[u8]) {
+    let fits = bytes.get(..text.remaining_capacity()).unwrap_or(bytes);
+    let _ = text.try_extend_from_slice(fits);
+}
+
+fn repeat(text: &mut Text, byte: u8, count: usize) {
+    for _ in 0..count {
+        let _ = text.try_push(byte);
+    }
+}
+
 // A book with the fixed number 1 and so many zeros: it is out of range from ten zeros on, and where a sum of 32 or 64 bits wrapped it would
 // be 0 from 32 or 64 zeros on.
-pub fn zeros(alloc: Global, count: usize) -> Result<Vec<u8>, AllocError> {
-    let mut text = Vec::from_slice(alloc, b"vars\nsym a 1 =1")?;
-    text.resize(text.len().saturating_add(count), b'0')?;
-    text.extend_from_slice(b"\nmatch a\n")?;
-    Ok(text)
+pub fn zeros(count: usize, text: &mut Text) {
+    text.clear();
+    append(text, b"vars\nsym a 1 =1");
+    repeat(text, b'0', count);
+    append(text, b"\nmatch a\n");
 }
 
 // The first book with so many spaces before its last LF that its text has this many bytes before that.
-pub fn spaces(alloc: Global, size: usize) -> Result<Vec<u8>, AllocError> {
-    let mut text = Vec::from_slice(alloc, BASES[0].trim_end().as_bytes())?;
-    text.resize(size, b' ')?;
-    text.push(b'\n')?;
-    Ok(text)
+pub fn spaces(size: usize, text: &mut Text) {
+    text.clear();
+    append(text, BASES[0].trim_end().as_bytes());
+    text.truncate(size);
+    repeat(text, b' ', size.saturating_sub(text.len()));
+    append(text, b"\n");
 }

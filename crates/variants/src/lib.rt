@@ -4,8 +4,7 @@
 
 mod bases;
 
-pub use bases::{BASES, spaces, zeros};
-use std::alloc::{AllocError, Global};
+pub use bases::{BASES, ROOM, Text, spaces, zeros};
 
 // The bytes that are put in.
 const OTHERS: [u8; 23] = *b" \n\r\t\0abz01569_*+?|()A\xff=";
@@ -82,14 +81,14 @@ fn next_line(text: &[u8], p: usize) -> usize {
 }
 
 // The text with an edit of a kind at a place.
-pub fn edited(alloc: Global, text: &[u8], kind: Kind, place: usize) -> Result<Vec<u8>, AllocError> {
+pub fn edited(text: &[u8], kind: Kind, place: usize, out: &mut Text) {
     let edit = edit_of(text, kind, place);
-    let mut out = Vec::from_slice(alloc, text.get(..edit.keep).unwrap_or(text))?;
+    out.clear();
+    bases::append(out, text.get(..edit.keep).unwrap_or(text));
     for b in edit.between {
         if let Some(b) = b {
-            out.push(b)?;
+            let _ = out.try_push(b);
         }
     }
-    out.extend_from_slice(text.get(edit.from..).unwrap_or(&[]))?;
-    Ok(out)
+    bases::append(out, text.get(edit.from..).unwrap_or(&[]));
 }
