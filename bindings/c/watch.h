@@ -21,8 +21,8 @@
  *
  * Threads. Calls may run at once where none of them writes what another one is lent; so one book may serve many states.
  *
- * Stack. A call needs under 256 KB. This was measured, on texts and books at all limits and with 128 disjuncts held (203,000 bytes
- * for watch_read and watch_name, 177,000 for watch_event; bindings/c/stack.c holds them to it), and is not proved.
+ * Stack. A call needs under 256 KB. This was measured, on texts and books at all limits and with 128 disjuncts held (198,000 bytes
+ * for watch_read and watch_name, 227,000 for watch_event; bindings/c/stack.c holds them to it), and is not proved.
  *
  * Linking. The archive asks of the linker nothing but memcpy and memset (or their like: memmove, memcmp, bcmp).
  *
