@@ -3,10 +3,12 @@
 #![tactic(auto)]
 
 mod numbers;
+#[cfg(test)]
+mod tests;
 
 use arrayvec::ArrayVec;
 use noted::declared::{Argument, Symbol, Word};
-use noted::{Notes, Phase, Run};
+use noted::{NotesOf, Phase, Run};
 use numbers::number;
 
 // "0 to 4 variable names", "1 to 16 lines".
@@ -20,7 +22,11 @@ const VARS_WORDS: usize = 1;
 const SYM_WORDS: usize = 3;
 
 // The byte at a place, or the end of the text.
-pub fn step(notes: &mut Notes<'_>, at: usize, byte: Option<u8>) {
+pub fn step<const V: usize, const S: usize, const D: usize>(
+    notes: &mut NotesOf<'_, V, S, D>,
+    at: usize,
+    byte: Option<u8>,
+) {
     match byte {
         Some(b' ') => space(notes, at),
         Some(b'\n') | None => line_end(notes, at, byte),
@@ -29,7 +35,10 @@ pub fn step(notes: &mut Notes<'_>, at: usize, byte: Option<u8>) {
 }
 
 // "a space too many is 2 at that space": before the first word, or behind another.
-fn space(notes: &mut Notes<'_>, at: usize) {
+fn space<const V: usize, const S: usize, const D: usize>(
+    notes: &mut NotesOf<'_, V, S, D>,
+    at: usize,
+) {
     let Run::Word(from) = notes.run else {
         return notes.fault(2, at);
     };
@@ -38,7 +47,11 @@ fn space(notes: &mut Notes<'_>, at: usize) {
 }
 
 // The last space of a line is one too many; "a missing one is placed at the LF, a missing LF at the book's end".
-fn line_end(notes: &mut Notes<'_>, at: usize, byte: Option<u8>) {
+fn line_end<const V: usize, const S: usize, const D: usize>(
+    notes: &mut NotesOf<'_, V, S, D>,
+    at: usize,
+    byte: Option<u8>,
+) {
     match notes.run {
         Run::Nothing => {}
         Run::Word(from) => word_end(notes, from, at),
@@ -55,7 +68,9 @@ fn line_end(notes: &mut Notes<'_>, at: usize, byte: Option<u8>) {
     }
 }
 
-fn least_words(notes: &Notes<'_>) -> usize {
+fn least_words<const V: usize, const S: usize, const D: usize>(
+    notes: &NotesOf<'_, V, S, D>,
+) -> usize {
     if notes.line == 0 {
         VARS_WORDS
     } else {
@@ -63,7 +78,10 @@ fn least_words(notes: &Notes<'_>) -> usize {
     }
 }
 
-fn word_byte(notes: &mut Notes<'_>, at: usize) {
+fn word_byte<const V: usize, const S: usize, const D: usize>(
+    notes: &mut NotesOf<'_, V, S, D>,
+    at: usize,
+) {
     if !matches!(notes.run, Run::Word(_)) {
         notes.run = Run::Word(at);
         notes.words = notes.words.saturating_add(1);
@@ -71,7 +89,11 @@ fn word_byte(notes: &mut Notes<'_>, at: usize) {
 }
 
 // The word that ends before this place, by its number on its line.
-fn word_end(notes: &mut Notes<'_>, from: usize, at: usize) {
+fn word_end<const V: usize, const S: usize, const D: usize>(
+    notes: &mut NotesOf<'_, V, S, D>,
+    from: usize,
+    at: usize,
+) {
     let word = notes.word(from, at);
     if notes.line == 0 {
         vars_word(notes, word)
@@ -81,7 +103,10 @@ fn word_end(notes: &mut Notes<'_>, from: usize, at: usize) {
 }
 
 // "`vars`, then 0 to 4 variable names"; "the first excess word, of any form, carries 3".
-fn vars_word<'a>(notes: &mut Notes<'a>, word: Word<'a>) {
+fn vars_word<'a, const V: usize, const S: usize, const D: usize>(
+    notes: &mut NotesOf<'a, V, S, D>,
+    word: Word<'a>,
+) {
     if notes.words == 1 {
         if !word.is(b"vars") {
             notes.fault(2, word.start);
@@ -95,7 +120,10 @@ fn vars_word<'a>(notes: &mut Notes<'a>, word: Word<'a>) {
 }
 
 // "`sym NAME KIND ARGS`. … ARGS are 0 to 4 words"
-fn sym_word<'a>(notes: &mut Notes<'a>, word: Word<'a>) {
+fn sym_word<'a, const V: usize, const S: usize, const D: usize>(
+    notes: &mut NotesOf<'a, V, S, D>,
+    word: Word<'a>,
+) {
     match notes.words {
         1 => first_word(notes, word),
         2 => symbol(notes, word),
@@ -106,7 +134,10 @@ fn sym_word<'a>(notes: &mut Notes<'a>, word: Word<'a>) {
 }
 
 // `match` behind a `sym` line; else `sym`, "for a seventeenth `sym`, that word".
-fn first_word<'a>(notes: &mut Notes<'a>, word: Word<'a>) {
+fn first_word<'a, const V: usize, const S: usize, const D: usize>(
+    notes: &mut NotesOf<'a, V, S, D>,
+    word: Word<'a>,
+) {
     if word.is(b"match") {
         if notes.line == 1 {
             notes.fault(2, word.start);
@@ -122,7 +153,10 @@ fn first_word<'a>(notes: &mut Notes<'a>, word: Word<'a>) {
     }
 }
 
-fn symbol<'a>(notes: &mut Notes<'a>, word: Word<'a>) {
+fn symbol<'a, const V: usize, const S: usize, const D: usize>(
+    notes: &mut NotesOf<'a, V, S, D>,
+    word: Word<'a>,
+) {
     name(notes, word);
     let _ = notes.symbols.try_push(Symbol {
         name: word,
@@ -132,14 +166,20 @@ fn symbol<'a>(notes: &mut Notes<'a>, word: Word<'a>) {
 }
 
 // Form and size of a name, and "name already declared".
-fn name<'a>(notes: &mut Notes<'a>, word: Word<'a>) {
+fn name<'a, const V: usize, const S: usize, const D: usize>(
+    notes: &mut NotesOf<'a, V, S, D>,
+    word: Word<'a>,
+) {
     formed(notes, word);
     if notes.is_declared(word.bytes) {
         notes.fault(4, word.start);
     }
 }
 
-fn formed<'a>(notes: &mut Notes<'a>, word: Word<'a>) {
+fn formed<'a, const V: usize, const S: usize, const D: usize>(
+    notes: &mut NotesOf<'a, V, S, D>,
+    word: Word<'a>,
+) {
     if !word.is_name() {
         notes.fault(2, word.start);
     }
@@ -149,7 +189,10 @@ fn formed<'a>(notes: &mut Notes<'a>, word: Word<'a>) {
 }
 
 // "KIND is 1 to 255"
-fn kind<'a>(notes: &mut Notes<'a>, word: Word<'a>) {
+fn kind<'a, const V: usize, const S: usize, const D: usize>(
+    notes: &mut NotesOf<'a, V, S, D>,
+    word: Word<'a>,
+) {
     match number(word.bytes).and_then(|n| u8::try_from(n).ok()) {
         None | Some(0) => notes.fault(2, word.start),
         Some(kind) => {
@@ -161,7 +204,10 @@ fn kind<'a>(notes: &mut Notes<'a>, word: Word<'a>) {
 }
 
 // "each a declared variable or `_`", or `=` and a number.
-fn argument<'a>(notes: &mut Notes<'a>, word: Word<'a>) {
+fn argument<'a, const V: usize, const S: usize, const D: usize>(
+    notes: &mut NotesOf<'a, V, S, D>,
+    word: Word<'a>,
+) {
     let argument = match word.bytes {
         b"_" => Some(Argument::Ignored),
         [b'=', digits @ ..] => fixed(notes, word, digits),
@@ -172,7 +218,11 @@ fn argument<'a>(notes: &mut Notes<'a>, word: Word<'a>) {
     }
 }
 
-fn fixed<'a>(notes: &mut Notes<'a>, word: Word<'a>, digits: &[u8]) -> Option<Argument> {
+fn fixed<'a, const V: usize, const S: usize, const D: usize>(
+    notes: &mut NotesOf<'a, V, S, D>,
+    word: Word<'a>,
+    digits: &[u8],
+) -> Option<Argument> {
     let number = number(digits);
     if number.is_none() {
         notes.fault(2, word.start);
@@ -181,7 +231,10 @@ fn fixed<'a>(notes: &mut Notes<'a>, word: Word<'a>, digits: &[u8]) -> Option<Arg
 }
 
 // "a symbol's name among ARGS … is 5".
-fn variable<'a>(notes: &mut Notes<'a>, word: Word<'a>) -> Option<Argument> {
+fn variable<'a, const V: usize, const S: usize, const D: usize>(
+    notes: &mut NotesOf<'a, V, S, D>,
+    word: Word<'a>,
+) -> Option<Argument> {
     formed(notes, word);
     let v = notes.variables.iter().position(|w| w.is(word.bytes));
     if v.is_none() {

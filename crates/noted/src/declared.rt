@@ -23,12 +23,16 @@ pub enum Argument {
     Fixed(u32),
 }
 
+// A symbol with places for so many arguments.
 #[derive(Drop, Default)]
-pub struct Symbol<'a> {
+pub struct SymbolOf<'a, const A: usize> {
     pub name: Word<'a>,
     pub kind: u8,
-    pub arguments: ArrayVec<Argument, ARGUMENTS>,
+    pub arguments: ArrayVec<Argument, A>,
 }
+
+// With places for as many as a book may give it.
+pub type Symbol<'a> = SymbolOf<'a, ARGUMENTS>;
 
 // A byte that may stand in a name behind the first.
 pub fn is_inner(b: u8) -> bool {
@@ -55,7 +59,7 @@ impl Word<'_> {
     }
 }
 
-impl Symbol<'_> {
+impl<const A: usize> SymbolOf<'_, A> {
     // The variables that it binds, a bit to each.
     pub fn binds(&self) -> u8 {
         let mut binds = 0;

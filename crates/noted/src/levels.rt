@@ -1,5 +1,7 @@
 // What every word of the pattern has, as far as it is read: a few bits for each depth of parentheses, for 7 and 8. For the second
 // reader.
+ghost use Rattle.std.specs.Prelude.{◌≡◌, [], ◌∷◌, ◌++◌, ◌<◌, length, None};
+
 use arrayvec::ArrayVec;
 use std::mem;
 
@@ -24,7 +26,9 @@ struct Level {
 
 impl Level {
     // A sequence of which there is nothing yet.
-    fn begin(lacked: u8) -> Level {
+    fn begin(lacked: u8) -> Level
+        ensures { result.item ≡ None }
+    {
         Level {
             lacked,
             before: 0,
@@ -38,16 +42,19 @@ impl Level {
     }
 }
 
-// The depth that the scan is at, and those around it, the outermost first.
+// The depth that the scan is at, and those around it, the outermost first, with places for so many.
 #[derive(Drop)]
-pub struct Levels {
+pub struct LevelsOf<const D: usize> {
     inner: Level,
-    around: ArrayVec<Level, OPEN_LIMIT>,
+    around: ArrayVec<Level, D>,
 }
 
-impl Levels {
-    pub fn new() -> Levels {
-        Levels {
+// With places for as many as a book may open.
+pub type Levels = LevelsOf<OPEN_LIMIT>;
+
+impl<const D: usize> LevelsOf<D> {
+    pub fn new() -> LevelsOf<D> {
+        LevelsOf {
             inner: Level::begin(0),
             around: ArrayVec::new(),
         }
@@ -84,8 +91,12 @@ impl Levels {
         self.inner = Level::begin(self.inner.lacked | ALL ^ self.inner.sequence());
     }
 
-    // One depth more. What is around it is dropped where it has no place: the text has a fault then.
-    pub fn open(&mut self) {
+    // One depth more. What is around it is dropped where it has no place, so that the last `close` finds nothing open; where a book's places
+    // are full, its text has a fault.
+    pub fn open(&mut self)
+        ensures around { length self.old.around.items < D → self.new.around.items ≡ self.old.around.items ++ self.old.inner ∷ [] }
+        ensures inner { self.new.inner.item ≡ None }
+    {
         let around = mem::replace(&mut self.inner, Level::begin(0));
         let _ = self.around.try_push(around);
     }

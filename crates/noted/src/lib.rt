@@ -2,12 +2,17 @@
 // in `declared`, of the pattern's words in `levels`.
 #![tactic(auto)]
 
+ghost use Rattle.std.specs.Prelude.{◌≡◌, [], ◌<◌, Some, None, IfSome};
+ghost use Rattle.noted.specs.declared.Phase.TheVariants as Phases;
+
 pub mod declared;
 pub mod levels;
+#[cfg(test)]
+mod tests;
 
 use arrayvec::ArrayVec;
 use declared::{Symbol, Word};
-use levels::Levels;
+use levels::{LevelsOf, OPEN_LIMIT};
 
 // "0 to 4 variable names", "1 to 16 lines"; and one symbol more, since a seventeenth line is read to its end behind its fault.
 pub const VARIABLE_PLACES: usize = 4;
@@ -38,8 +43,10 @@ pub struct Fault {
     pub number: usize,
 }
 
+// With places for so many variables, symbols and open parentheses. A name that has no place is left out, and what is read of such a symbol
+// counts for the last one that has a place.
 #[derive(Drop)]
-pub struct Notes<'a> {
+pub struct NotesOf<'a, const V: usize, const S: usize, const D: usize> {
     pub text: &'a [u8],
     pub phase: Phase,
     // The least fault so far.
@@ -48,18 +55,29 @@ pub struct Notes<'a> {
     pub line: usize,
     pub words: usize,
     pub run: Run,
-    pub variables: ArrayVec<Word<'a>, VARIABLE_PLACES>,
-    pub symbols: ArrayVec<Symbol<'a>, SYMBOL_PLACES>,
+    pub variables: ArrayVec<Word<'a>, V>,
+    pub symbols: ArrayVec<Symbol<'a>, S>,
     // Of the pattern: the first token's place, the occurrences, and what its words have.
     pub first: Option<usize>,
     pub occurrences: usize,
-    pub levels: Levels,
+    pub levels: LevelsOf<D>,
 }
 
-impl<'a> Notes<'a> {
+// With places for as many as a book may have.
+pub type Notes<'a> = NotesOf<'a, VARIABLE_PLACES, SYMBOL_PLACES, OPEN_LIMIT>;
+
+impl<'a, const V: usize, const S: usize, const D: usize> NotesOf<'a, V, S, D> {
     // Before the first byte.
-    pub fn new(text: &'a [u8]) -> Notes<'a> {
-        Notes {
+    pub fn new(text: &'a [u8]) -> NotesOf<'a, V, S, D>
+        ensures text { result.text.now ≡ text.now }
+        ensures phase { result.phase ≡ Phases.Lines }
+        ensures least { result.least ≡ None }
+        ensures line { result.line ≡ 0 }
+        ensures words { result.words ≡ 0 }
+        ensures variables { result.variables.items ≡ [] }
+        ensures symbols { result.symbols.items ≡ [] }
+    {
+        NotesOf {
             text,
             phase: Phase::Lines,
             least: None,
@@ -70,12 +88,16 @@ impl<'a> Notes<'a> {
             symbols: ArrayVec::new(),
             first: None,
             occurrences: 0,
-            levels: Levels::new(),
+            levels: LevelsOf::new(),
         }
     }
 
     // A fault is noted where it is the least so far.
-    pub fn fault(&mut self, number: usize, place: usize) {
+    pub fn fault(&mut self, number: usize, place: usize)
+        ensures first { self.old.least ≡ None → self.new.least ≡ Some (record { place = place; number = number }) }
+        ensures earlier { IfSome self.old.least (λ f. f.place < place → self.new.least ≡ Some f) }
+        ensures later { IfSome self.old.least (λ f. place < f.place → self.new.least ≡ Some (record { place = place; number = number })) }
+    {
         let fault = Fault { place, number };
         self.least = Some(self.least.map_or(fault, |least| least.min(fault)));
     }

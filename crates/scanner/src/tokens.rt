@@ -2,12 +2,16 @@
 // place of recursion. For the second reader.
 use noted::declared::{self, Word};
 use noted::levels::{self, OPEN_LIMIT};
-use noted::{Notes, Phase, Run};
+use noted::{NotesOf, Phase, Run};
 
 // "At most 31 symbol occurrences".
 const OCCURRENCE_LIMIT: usize = 31;
 
-pub fn step(notes: &mut Notes<'_>, at: usize, byte: Option<u8>) {
+pub fn step<const V: usize, const S: usize, const D: usize>(
+    notes: &mut NotesOf<'_, V, S, D>,
+    at: usize,
+    byte: Option<u8>,
+) {
     if let Run::Word(from) = notes.run {
         if byte.is_some_and(declared::is_inner) {
             return;
@@ -22,7 +26,11 @@ pub fn step(notes: &mut Notes<'_>, at: usize, byte: Option<u8>) {
 }
 
 // 7 and 8 are placed at the first token.
-fn token(notes: &mut Notes<'_>, at: usize, b: u8) {
+fn token<const V: usize, const S: usize, const D: usize>(
+    notes: &mut NotesOf<'_, V, S, D>,
+    at: usize,
+    b: u8,
+) {
     notes.first = notes.first.or(Some(at));
     if b.is_ascii_lowercase() {
         notes.run = Run::Word(at);
@@ -32,7 +40,10 @@ fn token(notes: &mut Notes<'_>, at: usize, b: u8) {
 }
 
 // "a variable's in the pattern, is 5": only symbols are looked at.
-fn name_end<'a>(notes: &mut Notes<'a>, name: Word<'a>) {
+fn name_end<'a, const V: usize, const S: usize, const D: usize>(
+    notes: &mut NotesOf<'a, V, S, D>,
+    name: Word<'a>,
+) {
     let symbol = notes.symbols.iter().find(|s| s.name.is(name.bytes));
     let binds = symbol.map(|s| s.binds());
     if notes.occurrences == OCCURRENCE_LIMIT || name.is_long() {
@@ -47,7 +58,11 @@ fn name_end<'a>(notes: &mut Notes<'a>, name: Word<'a>) {
 }
 
 // Every sign but `(` wants an item before it, as does the end.
-fn sign(notes: &mut Notes<'_>, at: usize, b: u8) {
+fn sign<const V: usize, const S: usize, const D: usize>(
+    notes: &mut NotesOf<'_, V, S, D>,
+    at: usize,
+    b: u8,
+) {
     if b != b'(' && !notes.levels.stands() {
         notes.fault(6, at);
     }
@@ -62,7 +77,11 @@ fn sign(notes: &mut Notes<'_>, at: usize, b: u8) {
 }
 
 // "a missing one is placed at the LF, a missing LF at the book's end"
-fn line_end(notes: &mut Notes<'_>, at: usize, byte: Option<u8>) {
+fn line_end<const V: usize, const S: usize, const D: usize>(
+    notes: &mut NotesOf<'_, V, S, D>,
+    at: usize,
+    byte: Option<u8>,
+) {
     if !notes.levels.stands() || notes.levels.depth() != 0 {
         notes.fault(6, at);
     }
@@ -76,21 +95,27 @@ fn line_end(notes: &mut Notes<'_>, at: usize, byte: Option<u8>) {
     };
 }
 
-fn open(notes: &mut Notes<'_>, at: usize) {
+fn open<const V: usize, const S: usize, const D: usize>(
+    notes: &mut NotesOf<'_, V, S, D>,
+    at: usize,
+) {
     if notes.levels.depth() == OPEN_LIMIT {
         notes.fault(3, at);
     }
     notes.levels.open();
 }
 
-fn close(notes: &mut Notes<'_>, at: usize) {
+fn close<const V: usize, const S: usize, const D: usize>(
+    notes: &mut NotesOf<'_, V, S, D>,
+    at: usize,
+) {
     if !notes.levels.close() {
         notes.fault(6, at);
     }
 }
 
 // "No word of the pattern may be empty, and each word must contain, for each variable, a symbol that binds it."
-pub fn words(notes: &mut Notes<'_>) {
+pub fn words<const V: usize, const S: usize, const D: usize>(notes: &mut NotesOf<'_, V, S, D>) {
     let has = notes.levels.alternation();
     let first = notes.first.unwrap_or(0);
     if has & levels::NOT_EMPTY == 0 {
