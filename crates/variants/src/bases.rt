@@ -1,6 +1,8 @@
 // The books whose texts are edited: document 01's two, and others that meet its limits, use all of its signs, have names like its own
 // words, or fixed numbers of all sizes beside the other arguments, and one alone; and the texts of a number with many zeros. For the
 // program `texts`.
+ghost use Rattle.std.specs.Prelude.{◌≡◌, ◌≤◌, ◌<◌, ◌+◌, ℕ, length, drop};
+
 use arrayvec::ArrayVec;
 
 // The bytes that a text has places for: as many as the longest has, more than any base text after its edits.
@@ -34,6 +36,34 @@ fn repeat(text: &mut Text, byte: u8, count: usize) {
     }
 }
 
+// Bytes behind n others of a lent buffer, as far as they have places: how many there are then.
+pub fn put(out: &mut [u8], n: usize, bytes: &[u8]) -> usize
+    requires { n ≤ length out.old }
+    ensures size { length out.new ≡ length out.old }
+    ensures within { result ≤ length out.new }
+    ensures before { n ≤ result }
+    ensures all { n + length bytes.now ≤ length out.old → result ≡ n + length bytes.now }
+    ensures behind { (m : ℕ) → result ≤ m → drop m out.new ≡ drop m out.old }
+{
+    let k = bytes.len().min(out.len() - n);
+    out[n..n + k].copy_from_slice(&bytes[..k]);
+    n + k
+}
+
+// The same with one byte, so many times.
+fn fill(out: &mut [u8], n: usize, byte: u8, count: usize) -> usize
+    requires { n ≤ length out.old }
+    ensures size { length out.new ≡ length out.old }
+    ensures within { result ≤ length out.new }
+    ensures before { n ≤ result }
+    ensures all { n + count ≤ length out.old → result ≡ n + count }
+    ensures behind { (m : ℕ) → result ≤ m → drop m out.new ≡ drop m out.old }
+{
+    let k = count.min(out.len() - n);
+    out[n..n + k].fill(byte);
+    n + k
+}
+
 // A book with the fixed number 1 and so many zeros: it is out of range from ten zeros on, and where a sum of 32 or 64 bits wrapped it would
 // be 0 from 32 or 64 zeros on.
 pub fn zeros(count: usize, text: &mut Text) {
@@ -43,6 +73,18 @@ pub fn zeros(count: usize, text: &mut Text) {
     append(text, b"\nmatch a\n");
 }
 
+// The same in a lent buffer, as far as it has places: how many bytes are written.
+pub fn zeros_into(count: usize, out: &mut [u8]) -> usize
+    ensures size { length out.new ≡ length out.old }
+    ensures within { result ≤ length out.new }
+    ensures all { count + 24 ≤ length out.old → result ≡ count + 24 }
+    ensures behind { drop result out.new ≡ drop result out.old }
+{
+    let n = put(out, 0, b"vars\nsym a 1 =1");
+    let n = fill(out, n, b'0', count);
+    put(out, n, b"\nmatch a\n")
+}
+
 // The first book with so many spaces before its last LF that its text has this many bytes before that.
 pub fn spaces(size: usize, text: &mut Text) {
     text.clear();
@@ -50,4 +92,17 @@ pub fn spaces(size: usize, text: &mut Text) {
     text.truncate(size);
     repeat(text, b' ', size.saturating_sub(text.len()));
     append(text, b"\n");
+}
+
+// The same in a lent buffer, as far as it has places: how many bytes are written.
+pub fn spaces_into(size: usize, out: &mut [u8]) -> usize
+    ensures size { length out.new ≡ length out.old }
+    ensures within { result ≤ length out.new }
+    ensures all { size < length out.old → result ≡ size + 1 }
+    ensures behind { drop result out.new ≡ drop result out.old }
+{
+    let base = BASES[0].trim_end().as_bytes();
+    let n = put(out, 0, base.get(..size).unwrap_or(base));
+    let n = fill(out, n, b' ', size.saturating_sub(n));
+    put(out, n, b"\n")
 }

@@ -3,8 +3,12 @@
 #![tactic(auto)]
 
 mod bases;
+#[cfg(test)]
+mod tests;
 
-pub use bases::{BASES, ROOM, Text, spaces, zeros};
+ghost use Rattle.std.specs.Prelude.{◌≡◌, ◌≤◌, length, drop};
+
+pub use bases::{BASES, ROOM, Text, spaces, spaces_into, zeros, zeros_into};
 
 // The bytes that are put in.
 const OTHERS: [u8; 23] = *b" \n\r\t\0abz01569_*+?|()A\xff=";
@@ -91,4 +95,18 @@ pub fn edited(text: &[u8], kind: Kind, place: usize, out: &mut Text) {
         }
     }
     bases::append(out, text.get(edit.from..).unwrap_or(&[]));
+}
+
+// The same in a lent buffer, as far as it has places: how many bytes are written. Twice those of the text and one are always enough.
+pub fn edited_into(text: &[u8], kind: Kind, place: usize, out: &mut [u8]) -> usize
+    ensures size { length out.new ≡ length out.old }
+    ensures within { result ≤ length out.new }
+    ensures behind { drop result out.new ≡ drop result out.old }
+{
+    let edit = edit_of(text, kind, place);
+    let [first, second] = edit.between;
+    let n = bases::put(out, 0, text.get(..edit.keep).unwrap_or(text));
+    let n = bases::put(out, n, first.as_slice());
+    let n = bases::put(out, n, second.as_slice());
+    bases::put(out, n, text.get(edit.from..).unwrap_or(&[]))
 }
