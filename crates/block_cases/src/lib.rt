@@ -7,3 +7,5 @@ pub mod layout;
 pub mod leaving;
 pub mod lending;
 pub mod states;
+#[cfg(test)]
+mod tests;

@@ -6,3 +6,5 @@ pub mod drawn;
 pub mod entries;
 pub mod events;
 pub mod moves;
+#[cfg(test)]
+mod tests;

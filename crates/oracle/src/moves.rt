@@ -11,19 +11,20 @@ pub struct Move {
     pub b: u32,
 }
 
-// The rows, so many of the places, have the event's `d`, and each its value of `s`, none where it would leave `s` free.
+// The rows, so many of the places, have the event's `d`, and each its value of `s`, none where it would leave `s` free. `rows` gives those that
+// count.
 #[derive(Clone, Copy)]
 pub struct Outcome {
     pub room: bool,
-    count: usize,
-    rows: [Option<u32>; PLACES],
+    pub count: usize,
+    pub places: [Option<u32>; PLACES],
     pub held: Held,
     meets: bool,
 }
 
 impl Outcome {
     pub fn rows(&self) -> &[Option<u32>] {
-        &self.rows[..self.count.min(PLACES)]
+        &self.places[..self.count.min(PLACES)]
     }
 
     pub fn leaves_free(&self) -> bool {
@@ -37,7 +38,7 @@ impl Outcome {
     // A row more, behind the others.
     fn list(&mut self, s: Option<u32>) {
         if self.count < PLACES {
-            self.rows[self.count] = s;
+            self.places[self.count] = s;
             self.count += 1;
         }
     }
@@ -106,7 +107,7 @@ pub fn after(h: &Held, m: Move) -> Outcome {
     let mut o = Outcome {
         room: true,
         count: 0,
-        rows: [None; PLACES],
+        places: [None; PLACES],
         held: Held::none(),
         meets: false,
     };

@@ -1,7 +1,7 @@
 // Runs of a set: the events in their order, from fresh states on, each held to the plain calls and to the second matcher. For the program `set_trials`.
 use crate::alone::{self, BAD_COUNT, Expected};
 use crate::call::{Answered, Buffer, Call, Row, States, Tally};
-use crate::chosen::Set;
+use crate::chosen::SetOf;
 use crate::score::Score;
 use lent_set::{BOOK_WORDS, BOOKS, STATE_WORDS, TALLY_WORDS};
 use row::ROW;
@@ -35,7 +35,7 @@ impl Runs {
     }
 
     // The events of a set in their order, from fresh states on.
-    pub fn run(&mut self, set: &mut Set) {
+    pub fn run<const N: usize>(&mut self, set: &mut SetOf<N>) {
         let count = set.trials().len();
         self.start(count);
         for i in 0..EVENTS {
@@ -82,7 +82,7 @@ impl Runs {
     }
 
     // Event number i of the run, and what is noted of it.
-    fn event(&mut self, event: &Event, set: &mut Set, i: usize) {
+    fn event<const N: usize>(&mut self, event: &Event, set: &mut SetOf<N>, i: usize) {
         let mut rows = [BLANK; BUFFER_BYTES];
         let call = Call::of(event, set.books.as_flattened(), set.trials().len());
         let answered = self.called(&call, &mut rows);

@@ -13,13 +13,17 @@ const SETS: u64 = 65536;
 // The values of a book in which exclusions gather.
 const VALUES: usize = 10;
 
-// So many books: their trials, all with the events of the first, and behind them any; and the words of the books, then zeros.
+// So many books, of a number of places: their trials, all with the events of the first, and behind them any; and the words of the books, then
+// zeros. `trials` and `trials_mut` give those that count.
 #[derive(Clone, Copy)]
-pub struct Set {
-    count: usize,
-    trials: [Trial; BOOKS],
+pub struct SetOf<const N: usize> {
+    pub count: usize,
+    pub places: [Trial; N],
     pub books: [[u32; BOOK_WORDS]; BOOKS],
 }
+
+// With places for as many books as a call takes.
+pub type Set = SetOf<BOOKS>;
 
 impl Set {
     // Set number i.
@@ -28,7 +32,7 @@ impl Set {
         let mut first: u64 = 0;
         let mut set = Set {
             count: 0,
-            trials: [invented::trial(i); BOOKS],
+            places: [invented::trial(i); BOOKS],
             books: [[0; BOOK_WORDS]; BOOKS],
         };
         for c in 0..CANDIDATES {
@@ -44,14 +48,6 @@ impl Set {
             }
         }
         set
-    }
-
-    pub fn trials(&self) -> &[Trial] {
-        &self.trials[..self.count.min(BOOKS)]
-    }
-
-    pub fn trials_mut(&mut self) -> &mut [Trial] {
-        &mut self.trials[..self.count.min(BOOKS)]
     }
 
     // In every second set exclusions gather, so that some events have no room.
@@ -72,9 +68,19 @@ impl Set {
         let k = self.count % BOOKS;
         if is_read(&text, &mut self.books[k]) {
             trial.number = k as u8;
-            self.trials[k] = trial;
+            self.places[k] = trial;
             self.count = k + 1;
         }
+    }
+}
+
+impl<const N: usize> SetOf<N> {
+    pub fn trials(&self) -> &[Trial] {
+        &self.places[..self.count.min(N)]
+    }
+
+    pub fn trials_mut(&mut self) -> &mut [Trial] {
+        &mut self.places[..self.count.min(N)]
     }
 }
 

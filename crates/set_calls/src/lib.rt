@@ -8,7 +8,9 @@ mod calling;
 mod chosen;
 mod orders;
 mod score;
+#[cfg(test)]
+mod tests;
 
 pub use calling::Runs;
-pub use chosen::Set;
+pub use chosen::{Set, SetOf};
 pub use score::Score;

@@ -1,6 +1,6 @@
 // The second matcher's rows for each book of a set; and another order of the events, neighbours exchanged that concern no common valuation in any of
 // its books. For the program `set_trials`.
-use crate::chosen::Set;
+use crate::chosen::SetOf;
 use trial::{EVENTS, Trial};
 
 // Exchanges that are tried, and how far apart one is from the next.
@@ -8,7 +8,7 @@ const EXCHANGES: usize = 60;
 
 const APART: usize = 7;
 
-impl Set {
+impl<const N: usize> SetOf<N> {
     // The rows of each book after each event that the set accepted.
     pub fn list(&mut self) {
         for trial in self.trials_mut() {
