@@ -1,6 +1,6 @@
 // What every word of the pattern has, as far as it is read: a few bits for each depth of parentheses, for 7 and 8. For the second
 // reader.
-ghost use Rattle.std.specs.Prelude.{◌≡◌, [], ◌∷◌, ◌++◌, ◌<◌, length, None};
+ghost use Rattle.std.specs.Prelude.{◌≡◌, [], ◌∷◌, ◌++◌, ◌<◌, ltb, length, None, Some, is_some};
 
 use arrayvec::ArrayVec;
 use std::mem;
@@ -61,12 +61,16 @@ impl<const D: usize> LevelsOf<D> {
     }
 
     // How many parentheses are open.
-    pub fn depth(&self) -> usize {
+    pub fn depth(&self) -> usize
+        ensures { result ≡ length self.now.around.items }
+    {
         self.around.len()
     }
 
     // Whether an item stands before.
-    pub fn stands(&self) -> bool {
+    pub fn stands(&self) -> bool
+        ensures { result ≡ is_some self.now.inner.item }
+    {
         self.inner.item.is_some()
     }
 
@@ -76,18 +80,27 @@ impl<const D: usize> LevelsOf<D> {
     }
 
     // One item more.
-    pub fn add(&mut self, has: u8) {
+    pub fn add(&mut self, has: u8)
+        ensures item { self.new.inner.item ≡ Some has }
+        ensures around { self.new.around ≡ self.old.around }
+    {
         self.inner.before = self.inner.sequence();
         self.inner.item = Some(has);
     }
 
     // The last item may be left out.
-    pub fn optional(&mut self) {
+    pub fn optional(&mut self)
+        ensures item { self.new.inner.item ≡ Some 0 }
+        ensures around { self.new.around ≡ self.old.around }
+    {
         self.inner.item = Some(0);
     }
 
     // One sequence more of the alternation.
-    pub fn divide(&mut self) {
+    pub fn divide(&mut self)
+        ensures item { self.new.inner.item ≡ None }
+        ensures around { self.new.around ≡ self.old.around }
+    {
         self.inner = Level::begin(self.inner.lacked | ALL ^ self.inner.sequence());
     }
 
@@ -102,7 +115,9 @@ impl<const D: usize> LevelsOf<D> {
     }
 
     // The alternation in parentheses is an item of what is around it: whether one was open.
-    pub fn close(&mut self) -> bool {
+    pub fn close(&mut self) -> bool
+        ensures { result ≡ ltb 0 (length self.old.around.items) }
+    {
         let has = self.alternation();
         let Some(around) = self.around.pop() else {
             return false;

@@ -6,7 +6,7 @@
 mod tests;
 mod tokens;
 
-ghost use Rattle.std.specs.Prelude.{◌≡◌, ◌<◌, length, Some};
+ghost use Rattle.std.specs.Prelude.{◌≡◌, ◌<◌, length, Some, None};
 
 use noted::{Notes, NotesOf, Phase};
 
@@ -17,7 +17,9 @@ const TEXT_BYTES: usize = 4096;
 pub fn read(text: &[u8]) -> Notes<'_>
     ensures { 4096 < length text.now → result.least ≡ Some (record { place = 4096; number = 1 }) }
 {
-    read_with(text)
+    let mut notes = Notes::new(text);
+    scan(&mut notes);
+    notes
 }
 
 // The same with as many places as the caller says: where they are fewer than `Notes` has, the fault may be another.
@@ -27,15 +29,22 @@ pub fn read_with<const V: usize, const S: usize, const D: usize>(
     ensures { 4096 < length text.now → result.least ≡ Some (record { place = 4096; number = 1 }) }
 {
     let mut notes = NotesOf::new(text);
+    scan(&mut notes);
+    notes
+}
+
+// The text of notes that are new. It stands apart, as notes that `read` were handed would be copied.
+fn scan<const V: usize, const S: usize, const D: usize>(notes: &mut NotesOf<'_, V, S, D>)
+    ensures { notes.old.least ≡ None → 4096 < length notes.old.text.now → notes.new.least ≡ Some (record { place = 4096; number = 1 }) }
+{
+    let text = notes.text;
     if TEXT_BYTES < text.len() {
-        notes.fault(1, TEXT_BYTES);
-        return notes;
+        return notes.fault(1, TEXT_BYTES);
     }
     for (at, b) in text.iter().enumerate() {
-        step(&mut notes, at, Some(*b));
+        step(notes, at, Some(*b));
     }
-    step(&mut notes, text.len(), None);
-    notes
+    step(notes, text.len(), None);
 }
 
 fn step<const V: usize, const S: usize, const D: usize>(
