@@ -33,7 +33,7 @@ pub fn read_with<const V: usize, const S: usize, const D: usize>(
     notes
 }
 
-// The text of notes that are new. It stands apart, as notes that `read` were handed would be copied.
+// Reads the text of notes that are new. `read` does not call `read_with`, since the notes that it got would be copied.
 fn scan<const V: usize, const S: usize, const D: usize>(notes: &mut NotesOf<'_, V, S, D>)
     ensures { notes.old.least ≡ None → 4096 < length notes.old.text.now → notes.new.least ≡ Some (record { place = 4096; number = 1 }) }
 {
